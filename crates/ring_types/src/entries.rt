@@ -1,16 +1,36 @@
-use std::alloc::Global;
-
 use crate::duplication::{Duplicate, Memory};
 use crate::lists::List;
 use crate::values::Txn;
+use std::alloc::Global;
+use std::marker::Model;
 
-/// The number of a member of the ring.
+/// The number of a member of the ring. Contracts see the number itself.
 #[derive(Clone, Copy, Debug, PartialEq, Eq, PartialOrd, Ord)]
 pub struct NodeId(pub u32);
 
-/// The place of a region in the ring's declaration, counted from 1.
+impl Model for NodeId {
+    ghost use Rattle.std.specs.Prelude.{ℕ};
+
+    ghost Value = { ℕ };
+
+    ghost view = { λ id. id.0 };
+
+    ghost inverse = { λ number. record { 0 = number } };
+}
+
+/// The place of a region in the ring's declaration, counted from 1. Contracts see the number itself.
 #[derive(Clone, Copy, Debug, PartialEq, Eq, PartialOrd, Ord)]
 pub struct RegionId(pub u16);
+
+impl Model for RegionId {
+    ghost use Rattle.std.specs.Prelude.{ℕ};
+
+    ghost Value = { ℕ };
+
+    ghost view = { λ id. id.0 };
+
+    ghost inverse = { λ number. record { 0 = number } };
+}
 
 /// The term in which an entry was written and its position in the log, counted from 1 (Raft's term
 /// and index). Opids are ordered by term, then by position.

@@ -1,10 +1,9 @@
 ghost use Rattle.std.specs.Prelude.{◌≡◌, ◌++◌, ◌∷◌, [], ◌<◌, ◌↔◌, IsTrue, OnOk, OnErr, OnSome, length, slice_get};
 ghost use Rattle.std.specs.Option.{option_copied};
 
+use crate::duplication::{Duplicate, Memory};
 use std::alloc::Global;
 use std::marker::Model;
-
-use crate::duplication::{Duplicate, Memory};
 
 /// A `Vec` that contracts see as the list of its items, at any depth, so that values that hold one
 /// compare as plain data.

@@ -1,12 +1,11 @@
 ghost use Rattle.std.specs.Prelude.{◌≡◌, IfOk};
 
-use std::alloc::Global;
-
 use crate::duplication::{Duplicate, Memory};
 use crate::entries::{NodeId, RegionId};
 use crate::lists::List;
 use crate::schemas::Schema;
 use crate::texts::Text;
+use std::alloc::Global;
 
 /// What a member does (MyRaft): a full node votes and has an engine, a logtailer votes and has none,
 /// a learner has an engine and does not vote.

@@ -1,8 +1,7 @@
-use std::alloc::Global;
-
 use crate::duplication::{Duplicate, Memory};
 use crate::lists::List;
 use crate::texts::Text;
+use std::alloc::Global;
 
 /// What a column holds: 64-bit signed numbers, or texts of at most `limit` UTF-8 bytes.
 #[derive(Clone, Copy, Debug, PartialEq, Eq)]

@@ -3,11 +3,10 @@ ghost use Rattle.std.specs.Cmp.{partial_equiv_from_equiv};
 ghost use Rattle.std.specs.Cmp.Lexicographic.{pointwise, slice_cmp, nat_list_eq_equiv, nat_list_cmp_total, texts_ties, texts_po};
 ghost use Rattle.std.specs.Ordering.{nat_cmp};
 
+use crate::duplication::{Duplicate, Memory};
 use std::alloc::Global;
 use std::cmp::Ordering;
 use std::marker::Model;
-
-use crate::duplication::{Duplicate, Memory};
 
 /// A `String` that contracts see as the list of its UTF-8 bytes. Texts compare by their bytes.
 #[derive(Debug, Drop)]

@@ -1,8 +1,7 @@
-use std::alloc::Global;
-
 use crate::duplication::{Duplicate, Memory};
 use crate::lists::List;
 use crate::texts::Text;
+use std::alloc::Global;
 
 /// A global transaction identifier of MySQL: the server's uuid as a number, big end first, and the
 /// transaction's number on that server, from 1 to 2^63 - 2.
