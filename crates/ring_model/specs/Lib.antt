@@ -1,0 +1,13 @@
+pub mod Quorums
+pub mod Needs
+pub mod Actions
+pub mod Nodes
+pub mod Steps
+pub mod Elections
+pub mod Replication
+pub mod Writes
+pub mod Transfers
+pub mod Dispatch
+pub mod Worlds
+pub mod Runs
+pub mod Safety
