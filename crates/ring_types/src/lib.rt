@@ -10,6 +10,8 @@ mod duplication;
 mod entries;
 mod lists;
 mod members;
+mod places;
+mod refusals;
 mod rings;
 mod schemas;
 mod texts;
