@@ -10,8 +10,13 @@ mod duplication;
 mod entries;
 mod lists;
 mod members;
+mod places;
+mod ranges;
+mod refusals;
 mod rings;
 mod schemas;
+#[cfg(test)]
+mod tests;
 mod texts;
 mod values;
 
