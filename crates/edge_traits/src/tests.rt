@@ -1,0 +1,181 @@
+ghost use Rattle.std.specs.Prelude.{◌≡◌, ◌≢◌, ◌≤◌, ◌++◌, ◌^◌, Err, IfOk, OnOk, IfSome, Some, is_some, length};
+ghost use Rattle.edge_traits.specs.Counts.{Rose};
+ghost use Rattle.edge_traits.specs.Fetches.{FetchIs, FetchFails};
+ghost use Rattle.edge_traits.specs.Files.{held};
+ghost use Rattle.edge_traits.specs.Puts.{PutIs, PutFails};
+
+use std::alloc::{AllocError, Global};
+use std::test::Fail;
+
+use ring_types::{List, Text};
+
+use crate::{FetchError, MemoryShelf, MemorySink, Shelf, ShelfFile, Sink, SinkFault, SteadyShelf, SteadySink};
+
+// Callers that know no more than the traits.
+
+/// Fetches a file once more where the shelf failed.
+fn fetch_again<H: Shelf>(shelf: &mut H, name: &Text, limit: u64) -> Result<List<u8>, FetchError>
+    ensures told { IfSome (H.files shelf.old) (λ f. FetchIs (f name.now) limit result) }
+    ensures within { IfOk result (λ bytes. length bytes ≤ limit) }
+    ensures same { H.files shelf.new ≡ H.files shelf.old }
+    ensures later { H.faults shelf.old ≤ H.faults shelf.new }
+    ensures failed { FetchFails (H.faults shelf.old) (H.faults shelf.new) result }
+{
+    match shelf.fetch(name, limit) {
+        Err(FetchError::Failed) => shelf.fetch(name, limit),
+        answer => answer,
+    }
+}
+
+/// Puts one run of bytes after the other.
+fn put_both<O: Sink>(sink: &mut O, first: &[u8], second: &[u8]) -> Result<(), SinkFault>
+    ensures told { IfSome (O.taken sink.old) (λ old. OnOk result (O.taken sink.new ≡ Some (old ++ (first.now ++ second.now)))) }
+    ensures tells { is_some (O.taken sink.new) ≡ is_some (O.taken sink.old) }
+    ensures later { O.faults sink.old ≤ O.faults sink.new }
+    ensures failed { PutFails (O.faults sink.old) (O.faults sink.new) result }
+{
+    sink.put(first)?;
+    sink.put(second)
+}
+
+/// How a copy ended.
+#[derive(Clone, Copy, Debug, PartialEq, Eq)]
+enum Copied {
+    Whole,
+    ShelfFailed,
+    SinkFailed,
+    Refused,
+}
+
+/// Copies a file of the shelf into the sink, with a mark before it.
+fn copy_file<H: Shelf, O: Sink>(shelf: &mut H, sink: &mut O, name: &Text, limit: u64) -> Copied
+    ensures shelf_failed { result ≡ Copied.ShelfFailed → Rose (H.faults shelf.old) (H.faults shelf.new) }
+    ensures sink_failed { result ≡ Copied.SinkFailed → Rose (O.faults sink.old) (O.faults sink.new) }
+{
+    match fetch_again(shelf, name, limit) {
+        Err(FetchError::Failed) => Copied::ShelfFailed,
+        Err(_) => Copied::Refused,
+        Ok(bytes) => match put_both(sink, b">", bytes.as_slice()) {
+            Ok(()) => Copied::Whole,
+            Err(SinkFault::Failed) => Copied::SinkFailed,
+            Err(SinkFault::Memory) => Copied::Refused,
+        },
+    }
+}
+
+/// Over steady forms neither failure is left.
+fn copy_steadily(shelf: &mut SteadyShelf, sink: &mut SteadySink, name: &Text, limit: u64) -> Copied
+    ensures shelf { result ≢ Copied.ShelfFailed }
+    ensures sink { result ≢ Copied.SinkFailed }
+{
+    copy_file(shelf, sink, name, limit)
+}
+
+/// A generic caller's clauses on content, at forms in memory that were just made.
+fn fetch_from_new(alloc: Global, files: List<ShelfFile>, name: &Text, limit: u64) -> Result<List<u8>, FetchError>
+    ensures told { FetchIs (held files name.now) limit result }
+    ensures steady { result ≢ Err FetchError.Failed }
+{
+    let mut shelf = SteadyShelf::new(alloc, files);
+    fetch_again(&mut shelf, name, limit)
+}
+
+fn text(alloc: Global, of: &str) -> Result<Text, AllocError> {
+    Ok(Text::from_string(String::from_str(alloc, of)?))
+}
+
+fn bytes(alloc: Global, of: &str) -> Result<List<u8>, AllocError> {
+    Ok(List::from_vec(of.as_bytes().to_vec(alloc)?))
+}
+
+fn numbers(alloc: Global, of: &[u64]) -> Result<List<u64>, AllocError> {
+    Ok(List::from_vec(of.to_vec(alloc)?))
+}
+
+fn files(alloc: Global) -> Result<List<ShelfFile>, AllocError> {
+    let mut files = List::new(alloc);
+    for (name, content) in [("a", "one"), ("b", "12345"), ("a", "two")] {
+        files.push(ShelfFile {
+            name: text(alloc, name)?,
+            bytes: bytes(alloc, content)?,
+        })?;
+    }
+    Ok(files)
+}
+
+#[test]
+fn a_shelf_gives_whole_files_or_says_why_not(rt: HostRuntime) -> Result<(), Fail> {
+    let alloc = rt.alloc();
+    let mut failing = MemoryShelf::new(alloc, files(alloc)?, numbers(alloc, &[2, 7])?);
+    let mut steady = SteadyShelf::new(alloc, files(alloc)?);
+    for (name, limit, want, fails) in [
+        ("a", 3, Ok("one"), false),
+        ("a", 3, Ok("one"), true),
+        ("b", 4, Err(FetchError::TooLarge), false),
+        ("b", 5, Ok("12345"), false),
+        ("c", 9, Err(FetchError::Absent), false),
+        ("a", 0, Err(FetchError::TooLarge), false),
+        ("c", 0, Err(FetchError::Absent), true),
+    ] {
+        let name = text(alloc, name)?;
+        let want = match want {
+            Ok(content) => Ok(bytes(alloc, content)?),
+            Err(error) => Err(error),
+        };
+        assert_eq!(rt; steady.fetch(&name, limit), want);
+        let got = failing.fetch(&name, limit);
+        if fails {
+            assert_eq!(rt; got, Err(FetchError::Failed));
+        } else {
+            assert_eq!(rt; got, want);
+        }
+    }
+    Ok(())
+}
+
+#[test]
+fn a_sink_takes_all_bytes_or_none(rt: HostRuntime) -> Result<(), Fail> {
+    let alloc = rt.alloc();
+    let mut failing = MemorySink::new(alloc, numbers(alloc, &[1, 3, 3])?);
+    let mut steady = SteadySink::new(alloc);
+    for (put, fails, failing_took, steady_took) in [
+        ("ab", true, "", "ab"),
+        ("cd", false, "cd", "abcd"),
+        ("e", true, "cd", "abcde"),
+        ("", false, "cd", "abcde"),
+        ("fg", false, "cdfg", "abcdefg"),
+    ] {
+        let want = if fails { Err(SinkFault::Failed) } else { Ok(()) };
+        assert_eq!(rt; failing.put(put.as_bytes()), want);
+        assert_eq!(rt; failing.taken().as_slice(), failing_took.as_bytes());
+        assert_eq!(rt; steady.put(put.as_bytes()), Ok(()));
+        assert_eq!(rt; steady.taken().as_slice(), steady_took.as_bytes());
+    }
+    Ok(())
+}
+
+#[test]
+fn callers_know_no_more_than_the_traits(rt: HostRuntime) -> Result<(), Fail> {
+    let alloc = rt.alloc();
+    let name = text(alloc, "b")?;
+    for (shelf_fails, sink_fails, want, took) in [
+        ([0, 0], 0, Copied::Whole, ">12345"),
+        ([1, 0], 0, Copied::Whole, ">12345"),
+        ([1, 2], 0, Copied::ShelfFailed, ""),
+        ([0, 0], 1, Copied::SinkFailed, ""),
+        ([0, 0], 2, Copied::SinkFailed, ">"),
+    ] {
+        let mut shelf = MemoryShelf::new(alloc, files(alloc)?, numbers(alloc, &shelf_fails)?);
+        let mut sink = MemorySink::new(alloc, numbers(alloc, &[sink_fails])?);
+        assert_eq!(rt; copy_file(&mut shelf, &mut sink, &name, 5), want);
+        assert_eq!(rt; sink.taken().as_slice(), took.as_bytes());
+    }
+    let mut shelf = SteadyShelf::new(alloc, files(alloc)?);
+    let mut sink = SteadySink::new(alloc);
+    assert_eq!(rt; copy_steadily(&mut shelf, &mut sink, &name, 4), Copied::Refused);
+    assert_eq!(rt; copy_steadily(&mut shelf, &mut sink, &name, 5), Copied::Whole);
+    assert_eq!(rt; sink.taken().as_slice(), b">12345".as_slice());
+    let first = fetch_from_new(alloc, files(alloc)?, &text(alloc, "a")?, 3);
+    assert_eq!(rt; first, Ok(bytes(alloc, "one")?));
+    Ok(())
+}
