@@ -1,4 +1,4 @@
-use Rattle.std.specs.Prelude.{◌≡◌, ℕ, ◌<◌, ◌≤◌, List, Option, Some, None, Result, Ok, Err, IsSomeAnd, length}
+use Rattle.std.specs.Prelude.{◌≡◌, ℕ, ◌<◌, List, Option, Some, None, Result, Ok, Err, IsSomeAnd, length}
 use Rattle.edge_traits.specs.Counts.{Rose}
 use Rattle.edge_traits.specs.declared.shelves.FetchError.{FetchError}
 use Rattle.edge_traits.specs.declared.shelves.FetchError.TheVariants as fetch

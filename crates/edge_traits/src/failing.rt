@@ -1,8 +1,7 @@
 ghost use Rattle.std.specs.Prelude.{◌≡◌, ◌≤◌};
 
-use std::marker::Model;
-
 use ring_types::List;
+use std::marker::Model;
 
 /// Which calls fail, and what was counted of them. A count stays at 2^64 - 1.
 #[derive(Drop)]

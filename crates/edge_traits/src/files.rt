@@ -3,11 +3,9 @@ ghost use Rattle.std.specs.Option.{option_copied};
 ghost use Rattle.edge_traits.specs.Fetches.{FetchIs};
 ghost use Rattle.edge_traits.specs.Files.{file_of, held};
 
-use std::alloc::Global;
-
-use ring_types::{Duplicate, List, Text};
-
 use crate::shelves::FetchError;
+use ring_types::{Duplicate, List, Text};
+use std::alloc::Global;
 
 /// A file of a shelf in memory.
 #[derive(Debug, PartialEq, Eq, Drop)]
@@ -24,7 +22,12 @@ fn find_file<'a>(files: &'a List<ShelfFile>, name: &Text) -> Option<&'a ShelfFil
 }
 
 /// The bytes of that name, copied.
-pub(crate) fn copy_held(files: &List<ShelfFile>, alloc: Global, name: &Text, limit: u64) -> Result<List<u8>, FetchError>
+pub(crate) fn copy_held(
+    files: &List<ShelfFile>,
+    alloc: Global,
+    name: &Text,
+    limit: u64,
+) -> Result<List<u8>, FetchError>
     ensures told { FetchIs (held files.now name.now) limit result }
     ensures within { IfOk result (λ bytes. length bytes ≤ limit) }
     ensures steady { result ≢ Err FetchError.Failed }

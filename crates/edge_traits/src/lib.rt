@@ -17,15 +17,15 @@ mod memory_shelves;
 mod memory_sinks;
 mod shelves;
 mod sinks;
+mod steady_shelves;
+mod steady_sinks;
 #[cfg(test)]
 mod tests;
 
 pub use files::ShelfFile;
 pub use memory_shelves::MemoryShelf;
-pub use memory_shelves::SteadyShelf;
 pub use memory_sinks::MemorySink;
-pub use memory_sinks::SteadySink;
-pub use shelves::FetchError;
-pub use shelves::Shelf;
-pub use sinks::Sink;
-pub use sinks::SinkFault;
+pub use shelves::{FetchError, Shelf};
+pub use sinks::{Sink, SinkFault};
+pub use steady_shelves::SteadyShelf;
+pub use steady_sinks::SteadySink;

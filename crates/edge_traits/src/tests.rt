@@ -4,12 +4,12 @@ ghost use Rattle.edge_traits.specs.Fetches.{FetchIs, FetchFails};
 ghost use Rattle.edge_traits.specs.Files.{held};
 ghost use Rattle.edge_traits.specs.Puts.{PutIs, PutFails};
 
+use crate::{
+    FetchError, MemoryShelf, MemorySink, Shelf, ShelfFile, Sink, SinkFault, SteadyShelf, SteadySink,
+};
+use ring_types::{List, Text};
 use std::alloc::{AllocError, Global};
 use std::test::Fail;
-
-use ring_types::{List, Text};
-
-use crate::{FetchError, MemoryShelf, MemorySink, Shelf, ShelfFile, Sink, SinkFault, SteadyShelf, SteadySink};
 
 // Callers that know no more than the traits.
 
@@ -39,7 +39,7 @@ fn put_both<O: Sink>(sink: &mut O, first: &[u8], second: &[u8]) -> Result<(), Si
 }
 
 /// How a copy ended.
-#[derive(Clone, Copy, Debug, PartialEq, Eq)]
+#[derive(Clone, Copy, PartialEq, Eq)]
 enum Copied {
     Whole,
     ShelfFailed,
@@ -72,7 +72,12 @@ fn copy_steadily(shelf: &mut SteadyShelf, sink: &mut SteadySink, name: &Text, li
 }
 
 /// A generic caller's clauses on content, at forms in memory that were just made.
-fn fetch_from_new(alloc: Global, files: List<ShelfFile>, name: &Text, limit: u64) -> Result<List<u8>, FetchError>
+fn fetch_from_new(
+    alloc: Global,
+    files: List<ShelfFile>,
+    name: &Text,
+    limit: u64,
+) -> Result<List<u8>, FetchError>
     ensures told { FetchIs (held files name.now) limit result }
     ensures steady { result ≢ Err FetchError.Failed }
 {
@@ -84,51 +89,53 @@ fn text(alloc: Global, of: &str) -> Result<Text, AllocError> {
     Ok(Text::from_string(String::from_str(alloc, of)?))
 }
 
-fn bytes(alloc: Global, of: &str) -> Result<List<u8>, AllocError> {
-    Ok(List::from_vec(of.as_bytes().to_vec(alloc)?))
+fn file(alloc: Global, name: &str, content: &str) -> Result<ShelfFile, AllocError> {
+    Ok(ShelfFile {
+        name: text(alloc, name)?,
+        bytes: List::from_vec(content.as_bytes().to_vec(alloc)?),
+    })
+}
+
+/// Three files, two of them with one name.
+fn files(alloc: Global) -> Result<List<ShelfFile>, AllocError> {
+    let mut files = List::new(alloc);
+    files.push(file(alloc, "a", "one")?)?;
+    files.push(file(alloc, "b", "12345")?)?;
+    files.push(file(alloc, "a", "two")?)?;
+    Ok(files)
 }
 
 fn numbers(alloc: Global, of: &[u64]) -> Result<List<u64>, AllocError> {
     Ok(List::from_vec(of.to_vec(alloc)?))
 }
 
-fn files(alloc: Global) -> Result<List<ShelfFile>, AllocError> {
-    let mut files = List::new(alloc);
-    for (name, content) in [("a", "one"), ("b", "12345"), ("a", "two")] {
-        files.push(ShelfFile {
-            name: text(alloc, name)?,
-            bytes: bytes(alloc, content)?,
-        })?;
+/// The bytes of a file, or a word for why there are none.
+fn shown(answer: &Result<List<u8>, FetchError>) -> &[u8] {
+    match answer {
+        Ok(bytes) => bytes.as_slice(),
+        Err(FetchError::Absent) => b"absent",
+        Err(FetchError::TooLarge) => b"too large",
+        Err(FetchError::Failed) => b"failed",
+        Err(FetchError::Memory) => b"memory",
     }
-    Ok(files)
 }
 
 #[test]
 fn a_shelf_gives_whole_files_or_says_why_not(rt: HostRuntime) -> Result<(), Fail> {
     let alloc = rt.alloc();
-    let mut failing = MemoryShelf::new(alloc, files(alloc)?, numbers(alloc, &[2, 7])?);
+    let mut failing = MemoryShelf::new(alloc, files(alloc)?, numbers(alloc, &[2, 6])?);
     let mut steady = SteadyShelf::new(alloc, files(alloc)?);
-    for (name, limit, want, fails) in [
-        ("a", 3, Ok("one"), false),
-        ("a", 3, Ok("one"), true),
-        ("b", 4, Err(FetchError::TooLarge), false),
-        ("b", 5, Ok("12345"), false),
-        ("c", 9, Err(FetchError::Absent), false),
-        ("a", 0, Err(FetchError::TooLarge), false),
-        ("c", 0, Err(FetchError::Absent), true),
+    for (name, limit, want, or_failed) in [
+        ("a", 3, "one", "one"),
+        ("a", 3, "one", "failed"),
+        ("b", 4, "too large", "too large"),
+        ("b", 5, "12345", "12345"),
+        ("c", 9, "absent", "absent"),
+        ("c", 0, "absent", "failed"),
     ] {
         let name = text(alloc, name)?;
-        let want = match want {
-            Ok(content) => Ok(bytes(alloc, content)?),
-            Err(error) => Err(error),
-        };
-        assert_eq!(rt; steady.fetch(&name, limit), want);
-        let got = failing.fetch(&name, limit);
-        if fails {
-            assert_eq!(rt; got, Err(FetchError::Failed));
-        } else {
-            assert_eq!(rt; got, want);
-        }
+        assert_eq!(rt; shown(&steady.fetch(&name, limit)), want.as_bytes());
+        assert_eq!(rt; shown(&failing.fetch(&name, limit)), or_failed.as_bytes());
     }
     Ok(())
 }
@@ -142,13 +149,14 @@ fn a_sink_takes_all_bytes_or_none(rt: HostRuntime) -> Result<(), Fail> {
         ("ab", true, "", "ab"),
         ("cd", false, "cd", "abcd"),
         ("e", true, "cd", "abcde"),
-        ("", false, "cd", "abcde"),
         ("fg", false, "cdfg", "abcdefg"),
     ] {
-        let want = if fails { Err(SinkFault::Failed) } else { Ok(()) };
-        assert_eq!(rt; failing.put(put.as_bytes()), want);
+        assert_eq!(rt;
+            failing.put(put.as_bytes()) == Err(SinkFault::Failed),
+            fails
+        );
         assert_eq!(rt; failing.taken().as_slice(), failing_took.as_bytes());
-        assert_eq!(rt; steady.put(put.as_bytes()), Ok(()));
+        assert!(rt; steady.put(put.as_bytes()).is_ok());
         assert_eq!(rt; steady.taken().as_slice(), steady_took.as_bytes());
     }
     Ok(())
@@ -158,24 +166,35 @@ fn a_sink_takes_all_bytes_or_none(rt: HostRuntime) -> Result<(), Fail> {
 fn callers_know_no_more_than_the_traits(rt: HostRuntime) -> Result<(), Fail> {
     let alloc = rt.alloc();
     let name = text(alloc, "b")?;
-    for (shelf_fails, sink_fails, want, took) in [
-        ([0, 0], 0, Copied::Whole, ">12345"),
-        ([1, 0], 0, Copied::Whole, ">12345"),
-        ([1, 2], 0, Copied::ShelfFailed, ""),
-        ([0, 0], 1, Copied::SinkFailed, ""),
-        ([0, 0], 2, Copied::SinkFailed, ">"),
+    for (shelf_fails_to, sink_fails_at, want, took) in [
+        (1, 9, Copied::Whole, ">12345"),
+        (2, 9, Copied::ShelfFailed, ""),
+        (0, 2, Copied::SinkFailed, ">"),
     ] {
-        let mut shelf = MemoryShelf::new(alloc, files(alloc)?, numbers(alloc, &shelf_fails)?);
-        let mut sink = MemorySink::new(alloc, numbers(alloc, &[sink_fails])?);
-        assert_eq!(rt; copy_file(&mut shelf, &mut sink, &name, 5), want);
+        let mut shelf = MemoryShelf::new(
+            alloc,
+            files(alloc)?,
+            numbers(alloc, &[1, shelf_fails_to])?,
+        );
+        let mut sink = MemorySink::new(alloc, numbers(alloc, &[sink_fails_at])?);
+        assert!(rt; copy_file(&mut shelf, &mut sink, &name, 5) == want);
         assert_eq!(rt; sink.taken().as_slice(), took.as_bytes());
     }
+    Ok(())
+}
+
+#[test]
+fn steady_forms_never_fail(rt: HostRuntime) -> Result<(), Fail> {
+    let alloc = rt.alloc();
+    let name = text(alloc, "b")?;
     let mut shelf = SteadyShelf::new(alloc, files(alloc)?);
     let mut sink = SteadySink::new(alloc);
-    assert_eq!(rt; copy_steadily(&mut shelf, &mut sink, &name, 4), Copied::Refused);
-    assert_eq!(rt; copy_steadily(&mut shelf, &mut sink, &name, 5), Copied::Whole);
+    assert!(rt; copy_steadily(&mut shelf, &mut sink, &name, 4) == Copied::Refused);
+    assert!(rt; copy_steadily(&mut shelf, &mut sink, &name, 5) == Copied::Whole);
     assert_eq!(rt; sink.taken().as_slice(), b">12345".as_slice());
-    let first = fetch_from_new(alloc, files(alloc)?, &text(alloc, "a")?, 3);
-    assert_eq!(rt; first, Ok(bytes(alloc, "one")?));
+    assert_eq!(rt;
+        shown(&fetch_from_new(alloc, files(alloc)?, &name, 5)),
+        b"12345".as_slice()
+    );
     Ok(())
 }
