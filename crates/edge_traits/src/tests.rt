@@ -120,81 +120,72 @@ fn shown(answer: &Result<List<u8>, FetchError>) -> &[u8] {
     }
 }
 
+/// Whether a shelf gives these bytes, or this word for why it gives none.
+fn is_fetched<H: Shelf>(
+    alloc: Global,
+    shelf: &mut H,
+    name: &str,
+    limit: u64,
+    want: &str,
+) -> Result<bool, AllocError> {
+    let name = text(alloc, name)?;
+    Ok(shown(&shelf.fetch(&name, limit)) == want.as_bytes())
+}
+
+/// How a copy of the file `b` ends, of which the calls of these numbers fail.
+fn copy_failing(alloc: Global, fetches: &[u64], puts: &[u64]) -> Result<Copied, AllocError> {
+    let mut shelf = MemoryShelf::new(alloc, files(alloc)?, numbers(alloc, fetches)?);
+    let mut sink = MemorySink::new(alloc, numbers(alloc, puts)?);
+    let name = text(alloc, "b")?;
+    Ok(copy_file(&mut shelf, &mut sink, &name, 5))
+}
+
 #[test]
 fn a_shelf_gives_whole_files_or_says_why_not(rt: HostRuntime) -> Result<(), Fail> {
-    let alloc = rt.alloc();
-    let mut failing = MemoryShelf::new(alloc, files(alloc)?, numbers(alloc, &[2, 6])?);
-    let mut steady = SteadyShelf::new(alloc, files(alloc)?);
-    for (name, limit, want, or_failed) in [
-        ("a", 3, "one", "one"),
-        ("a", 3, "one", "failed"),
-        ("b", 4, "too large", "too large"),
-        ("b", 5, "12345", "12345"),
-        ("c", 9, "absent", "absent"),
-        ("c", 0, "absent", "failed"),
+    let mut shelf = MemoryShelf::new(rt.alloc(), files(rt.alloc())?, numbers(rt.alloc(), &[2, 6])?);
+    for (name, limit, want) in [
+        ("a", 3, "one"),
+        ("a", 3, "failed"),
+        ("b", 4, "too large"),
+        ("b", 5, "12345"),
+        ("c", 9, "absent"),
+        ("c", 0, "failed"),
     ] {
-        let name = text(alloc, name)?;
-        assert_eq!(rt; shown(&steady.fetch(&name, limit)), want.as_bytes());
-        assert_eq!(rt; shown(&failing.fetch(&name, limit)), or_failed.as_bytes());
+        assert!(rt; is_fetched(rt.alloc(), &mut shelf, name, limit, want)?, "{name}");
     }
     Ok(())
 }
 
 #[test]
 fn a_sink_takes_all_bytes_or_none(rt: HostRuntime) -> Result<(), Fail> {
-    let alloc = rt.alloc();
-    let mut failing = MemorySink::new(alloc, numbers(alloc, &[1, 3, 3])?);
-    let mut steady = SteadySink::new(alloc);
-    for (put, fails, failing_took, steady_took) in [
-        ("ab", true, "", "ab"),
-        ("cd", false, "cd", "abcd"),
-        ("e", true, "cd", "abcde"),
-        ("fg", false, "cdfg", "abcdefg"),
+    let mut sink = MemorySink::new(rt.alloc(), numbers(rt.alloc(), &[1, 3])?);
+    for (bytes, fails, took) in [
+        ("ab", true, ""),
+        ("cd", false, "cd"),
+        ("e", true, "cd"),
+        ("fg", false, "cdfg"),
     ] {
-        assert_eq!(rt;
-            failing.put(put.as_bytes()) == Err(SinkFault::Failed),
-            fails
-        );
-        assert_eq!(rt; failing.taken().as_slice(), failing_took.as_bytes());
-        assert!(rt; steady.put(put.as_bytes()).is_ok());
-        assert_eq!(rt; steady.taken().as_slice(), steady_took.as_bytes());
+        assert!(rt; (sink.put(bytes.as_bytes()) == Err(SinkFault::Failed)) == fails);
+        assert!(rt; sink.taken().as_slice() == took.as_bytes());
     }
     Ok(())
 }
 
 #[test]
-fn callers_know_no_more_than_the_traits(rt: HostRuntime) -> Result<(), Fail> {
-    let alloc = rt.alloc();
-    let name = text(alloc, "b")?;
-    for (shelf_fails_to, sink_fails_at, want, took) in [
-        (1, 9, Copied::Whole, ">12345"),
-        (2, 9, Copied::ShelfFailed, ""),
-        (0, 2, Copied::SinkFailed, ">"),
-    ] {
-        let mut shelf = MemoryShelf::new(
-            alloc,
-            files(alloc)?,
-            numbers(alloc, &[1, shelf_fails_to])?,
-        );
-        let mut sink = MemorySink::new(alloc, numbers(alloc, &[sink_fails_at])?);
-        assert!(rt; copy_file(&mut shelf, &mut sink, &name, 5) == want);
-        assert_eq!(rt; sink.taken().as_slice(), took.as_bytes());
-    }
+fn a_caller_tells_whose_failure_it_was(rt: HostRuntime) -> Result<(), Fail> {
+    assert!(rt; copy_failing(rt.alloc(), &[1], &[])? == Copied::Whole);
+    assert!(rt; copy_failing(rt.alloc(), &[1, 2], &[])? == Copied::ShelfFailed);
+    assert!(rt; copy_failing(rt.alloc(), &[], &[2])? == Copied::SinkFailed);
     Ok(())
 }
 
 #[test]
 fn steady_forms_never_fail(rt: HostRuntime) -> Result<(), Fail> {
-    let alloc = rt.alloc();
-    let name = text(alloc, "b")?;
-    let mut shelf = SteadyShelf::new(alloc, files(alloc)?);
-    let mut sink = SteadySink::new(alloc);
+    let mut shelf = SteadyShelf::new(rt.alloc(), files(rt.alloc())?);
+    let mut sink = SteadySink::new(rt.alloc());
+    let name = text(rt.alloc(), "b")?;
     assert!(rt; copy_steadily(&mut shelf, &mut sink, &name, 4) == Copied::Refused);
     assert!(rt; copy_steadily(&mut shelf, &mut sink, &name, 5) == Copied::Whole);
-    assert_eq!(rt; sink.taken().as_slice(), b">12345".as_slice());
-    assert_eq!(rt;
-        shown(&fetch_from_new(alloc, files(alloc)?, &name, 5)),
-        b"12345".as_slice()
-    );
+    assert!(rt; sink.taken().as_slice() == b">12345".as_slice());
     Ok(())
 }
