@@ -1,4 +1,4 @@
-ghost use Rattle.std.specs.Prelude.{◌≡◌, ◌≢◌, ◌≤◌, ◌++◌, ◌^◌, Err, IfOk, OnOk, IfSome, Some, is_some, length};
+ghost use Rattle.std.specs.Prelude.{◌≡◌, ◌≢◌, ◌≤◌, ◌++◌, Err, IfOk, OnOk, IfSome, Some, is_some, length};
 ghost use Rattle.edge_traits.specs.Counts.{Rose};
 ghost use Rattle.edge_traits.specs.Fetches.{FetchIs, FetchFails};
 ghost use Rattle.edge_traits.specs.Files.{held};
@@ -142,7 +142,11 @@ fn copy_failing(alloc: Global, fetches: &[u64], puts: &[u64]) -> Result<Copied, 
 
 #[test]
 fn a_shelf_gives_whole_files_or_says_why_not(rt: HostRuntime) -> Result<(), Fail> {
-    let mut shelf = MemoryShelf::new(rt.alloc(), files(rt.alloc())?, numbers(rt.alloc(), &[2, 6])?);
+    let mut shelf = MemoryShelf::new(
+        rt.alloc(),
+        files(rt.alloc())?,
+        numbers(rt.alloc(), &[2, 6])?,
+    );
     for (name, limit, want) in [
         ("a", 3, "one"),
         ("a", 3, "failed"),
@@ -151,7 +155,10 @@ fn a_shelf_gives_whole_files_or_says_why_not(rt: HostRuntime) -> Result<(), Fail
         ("c", 9, "absent"),
         ("c", 0, "failed"),
     ] {
-        assert!(rt; is_fetched(rt.alloc(), &mut shelf, name, limit, want)?, "{name}");
+        assert!(rt;
+            is_fetched(rt.alloc(), &mut shelf, name, limit, want)?,
+            "{name}"
+        );
     }
     Ok(())
 }
