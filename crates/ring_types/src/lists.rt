@@ -81,6 +81,17 @@ impl<T: Drop> List<T> {
     }
 }
 
+impl<T: Copy> List<T> {
+    /// Puts the items at the end, in order. Without memory the list stays as it was.
+    pub fn extend_from_slice(&mut self, items: &[T]) -> Result<(), Memory>
+        ensures ok { OnOk result (self.new ≡ self.old ++ items.now) }
+        ensures err { OnErr result (self.new ≡ self.old) }
+    {
+        self.items.extend_from_slice(items)?;
+        Ok(())
+    }
+}
+
 impl<T: Duplicate + Drop> Duplicate for List<T> {
     fn copy(&self, alloc: Global) -> Result<List<T>, Memory> {
         let mut items = Vec::new(alloc);

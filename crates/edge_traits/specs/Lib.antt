@@ -1,0 +1,5 @@
+pub mod Counts
+pub mod Files
+pub mod Calls
+pub mod Fetches
+pub mod Puts
