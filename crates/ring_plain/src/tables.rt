@@ -1,0 +1,61 @@
+ghost use Rattle.std.specs.Prelude.{◌≡◌, IfOk};
+ghost use Rattle.std.specs.Option.{option_copied};
+ghost use Rattle.ring_types.specs.Rows as rows;
+
+use crate::lists::joined;
+use crate::values::{has_lesser_key, has_this_key};
+use ring_types::{Change, Duplicate, List, Memory, Schema, Value};
+use std::alloc::Global;
+
+/// The row with this key.
+pub fn row_of<'a>(rows: &'a [List<Value>], key: &Value) -> Option<&'a List<Value>>
+    ensures { option_copied result ≡ rows.row_of rows.now key.now }
+{
+    rows.iter().find(|row| has_this_key(row.as_slice(), key))
+}
+
+/// Whether there is a row with this key.
+pub fn has_key(rows: &[List<Value>], key: &Value) -> bool
+    ensures { result ≡ rows.has_key rows.now key.now }
+{
+    rows.iter().any(|row| has_this_key(row.as_slice(), key))
+}
+
+/// Copies of the rows that have another key.
+pub fn without_key(
+    alloc: Global,
+    rows: &[List<Value>],
+    key: &Value,
+) -> Result<List<List<Value>>, Memory>
+    ensures { IfOk result (λ it. it ≡ rows.without_key rows.now key.now) }
+{
+    let mut kept = List::new(alloc);
+    for row in rows {
+        if !has_this_key(row.as_slice(), key) {
+            kept.push(row.copy(alloc)?)?;
+        }
+    }
+    Ok(kept)
+}
+
+
+/// Copies of the rows with a copy of this one before the first that has a greater key.
+pub fn placed(
+    alloc: Global,
+    rows: &[List<Value>],
+    row: &List<Value>,
+) -> Result<List<List<Value>>, Memory>
+    ensures { IfOk result (λ it. it ≡ rows.placed rows.now row.now) }
+{
+    let mut passed = List::new(alloc);
+    let mut rest = rows;
+    while let [other, others @ ..] = rest {
+        if has_lesser_key(row.as_slice(), other.as_slice()) {
+            break;
+        }
+        passed.push(other.copy(alloc)?)?;
+        rest = others;
+    }
+    passed.push(row.copy(alloc)?)?;
+    joined(alloc, passed, rest)
+}
