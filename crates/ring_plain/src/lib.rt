@@ -5,15 +5,16 @@
 //! the layers above, and the yardstick for faster ones.
 #![tactic(auto)]
 
+mod fitting;
+mod keyed_rows;
 mod lists;
 mod logs;
-mod tables;
-mod values;
 
+pub use fitting::{
+    change_fits, changes_fit, comes_before, fits_table, has_lesser_key, has_null_key, has_this_key,
+    is_null, is_number, key_fits, payload_fits, payloads_fit, place_in, row_fits, same_value,
+    table_name, table_of, value_fits, values_fit,
+};
+pub use keyed_rows::{has_key, placed, row_of, without_key};
 pub use lists::{first_items, items_from, joined};
 pub use logs::{at_least, entry_at, has_opid, last, region_at, rotates, same_opid, term_at};
-pub use values::{
-    comes_before, fits_table, has_lesser_key, has_null_key, has_this_key, is_null, key_fits,
-    row_fits, same_value, table_name, value_fits, values_fit,
-};
-pub use tables::{has_key, placed, row_of, without_key};

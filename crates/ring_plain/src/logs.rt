@@ -1,12 +1,12 @@
 ghost use Rattle.std.specs.Prelude.{◌≡◌};
 ghost use Rattle.std.specs.Option.{option_copied};
-ghost use Rattle.ring_types.specs.Logs as logs;
+ghost use Rattle.ring_types.specs.Logs as spec;
 
 use ring_types::{Entry, Opid, Payload, RegionId};
 
 /// The entry at a position counted from 1.
 pub fn entry_at(log: &[Entry], position: u64) -> Option<&Entry>
-    ensures { option_copied result ≡ logs.entry_at log.now position }
+    ensures { option_copied result ≡ spec.entry_at log.now position }
 {
     if position == 0 {
         return None;
@@ -16,7 +16,7 @@ pub fn entry_at(log: &[Entry], position: u64) -> Option<&Entry>
 
 /// The term of the entry at a position; 0 at position 0 and past the end.
 pub fn term_at(log: &[Entry], position: u64) -> u64
-    ensures { result ≡ logs.term_at log.now position }
+    ensures { result ≡ spec.term_at log.now position }
 {
     match entry_at(log, position) {
         Some(entry) => entry.opid.term,
@@ -26,7 +26,7 @@ pub fn term_at(log: &[Entry], position: u64) -> u64
 
 /// The region of the entry at a position; the home region at position 0 and past the end.
 pub fn region_at(home: RegionId, log: &[Entry], position: u64) -> RegionId
-    ensures { result ≡ logs.region_at home log.now position }
+    ensures { result ≡ spec.region_at home log.now position }
 {
     match entry_at(log, position) {
         Some(entry) => entry.region,
@@ -36,7 +36,7 @@ pub fn region_at(home: RegionId, log: &[Entry], position: u64) -> RegionId
 
 /// The opid of the last entry, 0:0 for the empty log.
 pub fn last(log: &[Entry]) -> Opid
-    ensures { result ≡ logs.last log.now }
+    ensures { result ≡ spec.last log.now }
 {
     let position = log.len() as u64;
     Opid {
@@ -47,27 +47,27 @@ pub fn last(log: &[Entry]) -> Opid
 
 /// Whether the two name one entry.
 pub fn same_opid(a: Opid, b: Opid) -> bool
-    ensures { result ≡ logs.same_opid a b }
+    ensures { result ≡ spec.same_opid a b }
 {
     a.term == b.term && a.position == b.position
 }
 
 /// Whether `a` has a later term, or the same term and no smaller position (Raft's up-to-date test).
 pub fn at_least(a: Opid, b: Opid) -> bool
-    ensures { result ≡ logs.at_least a b }
+    ensures { result ≡ spec.at_least a b }
 {
     b.term < a.term || (a.term == b.term && b.position <= a.position)
 }
 
 /// Whether the log has an entry of this opid.
 pub fn has_opid(log: &[Entry], opid: Opid) -> bool
-    ensures { result ≡ logs.has_opid log.now opid }
+    ensures { result ≡ spec.has_opid log.now opid }
 {
     log.iter().any(|entry| same_opid(entry.opid, opid))
 }
 
 fn is_rotate(entry: &Entry) -> bool
-    ensures { result ≡ logs.is_rotate entry.now }
+    ensures { result ≡ spec.is_rotate entry.now }
 {
     match entry.payload {
         Payload::NoOp => false,
@@ -78,7 +78,7 @@ fn is_rotate(entry: &Entry) -> bool
 
 /// How many entries end a binary log file.
 pub fn rotates(log: &[Entry]) -> u64
-    ensures { result ≡ logs.rotates log.now }
+    ensures { result ≡ spec.rotates log.now }
 {
     let mut count = 0;
     for entry in log {

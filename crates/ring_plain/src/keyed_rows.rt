@@ -1,22 +1,22 @@
 ghost use Rattle.std.specs.Prelude.{◌≡◌, IfOk};
 ghost use Rattle.std.specs.Option.{option_copied};
-ghost use Rattle.ring_types.specs.Rows as rows;
+ghost use Rattle.ring_types.specs.Rows as spec;
 
 use crate::lists::joined;
-use crate::values::{has_lesser_key, has_this_key};
+use crate::fitting::{has_lesser_key, has_this_key};
 use ring_types::{Change, Duplicate, List, Memory, Schema, Value};
 use std::alloc::Global;
 
 /// The row with this key.
 pub fn row_of<'a>(rows: &'a [List<Value>], key: &Value) -> Option<&'a List<Value>>
-    ensures { option_copied result ≡ rows.row_of rows.now key.now }
+    ensures { option_copied result ≡ spec.row_of rows.now key.now }
 {
     rows.iter().find(|row| has_this_key(row.as_slice(), key))
 }
 
 /// Whether there is a row with this key.
 pub fn has_key(rows: &[List<Value>], key: &Value) -> bool
-    ensures { result ≡ rows.has_key rows.now key.now }
+    ensures { result ≡ spec.has_key rows.now key.now }
 {
     rows.iter().any(|row| has_this_key(row.as_slice(), key))
 }
@@ -27,7 +27,7 @@ pub fn without_key(
     rows: &[List<Value>],
     key: &Value,
 ) -> Result<List<List<Value>>, Memory>
-    ensures { IfOk result (λ it. it ≡ rows.without_key rows.now key.now) }
+    ensures { IfOk result (λ it. it ≡ spec.without_key rows.now key.now) }
 {
     let mut kept = List::new(alloc);
     for row in rows {
@@ -45,7 +45,7 @@ pub fn placed(
     rows: &[List<Value>],
     row: &List<Value>,
 ) -> Result<List<List<Value>>, Memory>
-    ensures { IfOk result (λ it. it ≡ rows.placed rows.now row.now) }
+    ensures { IfOk result (λ it. it ≡ spec.placed rows.now row.now) }
 {
     let mut passed = List::new(alloc);
     let mut rest = rows;
