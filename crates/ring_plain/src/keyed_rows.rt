@@ -4,7 +4,7 @@ ghost use Rattle.ring_types.specs.Rows as spec;
 
 use crate::lists::joined;
 use crate::fitting::{has_lesser_key, has_this_key};
-use ring_types::{Change, Duplicate, List, Memory, Schema, Value};
+use ring_types::{Change, Duplicate, List, Memory, RowRefusal, Value};
 use std::alloc::Global;
 
 /// The row with this key.
@@ -58,4 +58,73 @@ pub fn placed(
     }
     passed.push(row.copy(alloc)?)?;
     joined(alloc, passed, rest)
+}
+
+/// Copies of the rows with a copy of this one in place of the row that has its key.
+pub fn with_row(
+    alloc: Global,
+    rows: &[List<Value>],
+    row: &List<Value>,
+) -> Result<List<List<Value>>, Memory>
+    ensures { IfOk result (λ it. it ≡ spec.with_row rows.now row.now) }
+{
+    let others = match row.as_slice() {
+        [] => without_key(alloc, rows, &Value::Null)?,
+        [key, ..] => without_key(alloc, rows, key)?,
+    };
+    placed(alloc, others.as_slice(), row)
+}
+
+/// The rows of a table after a change of it.
+pub fn rows_after(
+    alloc: Global,
+    rows: &[List<Value>],
+    change: &Change,
+) -> Result<List<List<Value>>, Memory>
+    ensures { IfOk result (λ it. it ≡ spec.rows_after rows.now change.now) }
+{
+    match change {
+        Change::Insert { row, .. } => with_row(alloc, rows, row),
+        Change::Update { row, .. } => with_row(alloc, rows, row),
+        Change::Delete { key, .. } => without_key(alloc, rows, key),
+    }
+}
+
+fn has_key_of(rows: &[List<Value>], row: &[Value]) -> bool
+    ensures { result ≡ spec.has_key rows.now (spec.key_of row.now) }
+{
+    match row {
+        [] => has_key(rows, &Value::Null),
+        [key, ..] => has_key(rows, key),
+    }
+}
+
+/// Why the key of a change is refused: an insert wants it absent, an update or a delete wants it
+/// there.
+pub fn key_refusal(rows: &[List<Value>], change: &Change) -> Option<RowRefusal>
+    ensures { result ≡ spec.key_refusal rows.now change.now }
+{
+    match change {
+        Change::Insert { row, .. } => {
+            if has_key_of(rows, row.as_slice()) {
+                Some(RowRefusal::KeyExists)
+            } else {
+                None
+            }
+        }
+        Change::Update { row, .. } => {
+            if has_key_of(rows, row.as_slice()) {
+                None
+            } else {
+                Some(RowRefusal::NoKey)
+            }
+        }
+        Change::Delete { key, .. } => {
+            if has_key(rows, key) {
+                None
+            } else {
+                Some(RowRefusal::NoKey)
+            }
+        }
+    }
 }
