@@ -9,6 +9,7 @@ mod fitting;
 mod keyed_rows;
 mod lists;
 mod logs;
+mod table_rows;
 
 pub use fitting::{
     change_fits, changes_fit, comes_before, fits_table, has_lesser_key, has_null_key, has_this_key,
@@ -18,3 +19,6 @@ pub use fitting::{
 pub use keyed_rows::{has_key, key_refusal, placed, row_of, rows_after, with_row, without_key};
 pub use lists::{first_items, items_from, joined};
 pub use logs::{at_least, entry_at, has_opid, last, region_at, rotates, same_opid, term_at};
+pub use table_rows::{
+    Tables, all_changed, applied, changed, check, empty_tables, is_valid, refusal_of, rows,
+};
