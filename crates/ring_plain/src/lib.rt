@@ -9,6 +9,7 @@ mod fitting;
 mod keyed_rows;
 mod lists;
 mod logs;
+mod sizes;
 mod table_rows;
 
 pub use fitting::{
@@ -19,6 +20,7 @@ pub use fitting::{
 pub use keyed_rows::{has_key, key_refusal, placed, row_of, rows_after, with_row, without_key};
 pub use lists::{first_items, items_from, joined};
 pub use logs::{at_least, entry_at, has_opid, last, region_at, rotates, same_opid, term_at};
+pub use sizes::{change_size, changes_size, group_size, rows_event_size, table_map_size};
 pub use table_rows::{
     Tables, all_changed, applied, changed, check, empty_tables, is_valid, refusal_of, rows,
 };
