@@ -13,7 +13,7 @@ use Rattle.ring_types.specs.declared.values.Value.{Value}
 use Rattle.ring_types.specs.declared.values.Txn.{Txn}
 use Rattle.ring_types.specs.declared.schemas.Schema.{Schema}
 use Rattle.ring_types.specs.Logs.{IsLog, entry_at, is_txn, same_opid, has_opid}
-use Rattle.ring_types.specs.Rows.{table_name, change_key, same_value, changes_fit, is_number, payloads_fit}
+use Rattle.ring_types.specs.Rows.{table_name, change_key, same_value, payload_fits, payloads_fit}
 use Rattle.ring_types.specs.Sizes.{group_bytes, group_limit}
 use Rattle.ring_model.specs.declared.nodes.Durable.{Durable}
 use Rattle.ring_model.specs.declared.effects.Action.{Action}
@@ -87,9 +87,10 @@ all_done d [] = d
 all_done d (a ∷ actions) = all_done (done d a) actions
 
 -- ---- when an action is possible
-abbrev pub FrontIs : List Pair → Opid → Type 0
-FrontIs [] o = ⊥
-FrontIs (p ∷ pairs) o = same_opid p.opid o ≡ true
+-- the front pair is the entry's: its opid and its transaction
+abbrev pub FrontIs : List Pair → Entry → Type 0
+FrontIs [] e = ⊥
+FrontIs (p ∷ pairs) e = pair_of e ≡ Some p
 
 abbrev pub FrontIsNot : List Pair → ℕ → Type 0
 FrontIsNot [] position = Unit {0}
@@ -98,7 +99,7 @@ FrontIsNot (p ∷ pairs) position = (p.opid.position == position) ≡ false
 -- a transaction at the position is the front pair; for another entry the front pair is of another position
 abbrev pub MayCommitEntry : List Pair → ℕ → Option Entry → Type 0
 MayCommitEntry pairs position None = ⊥
-MayCommitEntry pairs position (Some e) = elim (is_txn e) [ true ↦ FrontIs pairs e.opid | false ↦ FrontIsNot pairs position ]
+MayCommitEntry pairs position (Some e) = elim (is_txn e) [ true ↦ FrontIs pairs e | false ↦ FrontIsNot pairs position ]
 
 abbrev pub IsPossible : Schema → Durable → Action → Type 0
 IsPossible schema d (action.SetTerm term) = d.term < term
@@ -106,7 +107,7 @@ IsPossible schema d (action.Vote vote floor) = (has_room floor d.votes ≡ true)
 IsPossible schema d (action.Append entries) = IsLog (d.log ++ entries) × (payloads_fit schema (d.log ++ entries) ≡ true)
 IsPossible schema d (action.Truncate position) = (d.applied ≤ position) × (position ≤ length d.log)
 IsPossible schema d (action.Prepare pair) =
-    (list_any (is_held d.prepared) pair.txn.changes ≡ false) × (changes_fit schema pair.txn.changes ≡ true) × (is_number pair.txn.gtid.number ≡ true)
+    (list_any (is_held d.prepared) pair.txn.changes ≡ false) × (payload_fits schema (payload.Txn pair.txn) ≡ true)
     × (group_bytes schema (payload.Txn pair.txn) ≤ group_limit)
 IsPossible schema d (action.Commit position) = (position ≡ d.applied + 1) × (position ≤ length d.log) × MayCommitEntry d.prepared position (entry_at d.log position)
 IsPossible schema d (action.RollBackAfter position) = Unit {0}

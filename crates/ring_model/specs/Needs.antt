@@ -1,4 +1,4 @@
--- The regions that a candidate needs, and when its grants win (after FlexiRaft: the region of the last known leader, and of each possible leader since).
+-- The regions that a candidate needs, and when its grants win (after FlexiRaft: the region of the leader that wrote the candidate's last entry, never of one merely heard of, and that of each possible leader since).
 use Rattle.std.specs.Prelude.{◌≡◌, ℕ, zero, suc, ◌<◌, ◌==◌, Bool, true, false, not, ◌&&◌, List, [], ◌∷◌, ◌++◌, length, map, filter, flat_map, nat_lt}
 use Rattle.std.specs.List.{list_any, list_all, Contains}
 use Rattle.ring_types.specs.declared.members.Member.{Member}

@@ -10,6 +10,7 @@ use Rattle.ring_types.specs.declared.entries.Pair.{Pair}
 use Rattle.ring_types.specs.declared.schemas.Schema.{Schema}
 use Rattle.ring_types.specs.Rings.{Layout, votes, runs_engine, is_member}
 use Rattle.ring_types.specs.Logs.{IsLog, entry_at, last, has_opid, same_opid}
+use Rattle.ring_types.specs.Gtids.{gtid_of}
 use Rattle.ring_types.specs.Sizes.{group_bytes, group_limit}
 use Rattle.ring_model.specs.Actions.{vote_limit, pairs_in, entries_between, is_prepared}
 use Rattle.ring_model.specs.declared.nodes.Durable.{Durable}
@@ -71,7 +72,7 @@ abbrev pub PeerFits : ℕ → Peer → Type 0
 PeerFits len p = (p.matched < p.next) × (p.next ≤ len + 1) × (p.silent ≤ 3)
 
 abbrev pub IsPendingIn : List Entry → ℕ → Pending → Type 0
-IsPendingIn log commit p = (commit < p.opid.position) × ((e : Entry) × (entry_at log p.opid.position ≡ Some e) × (e.opid ≡ p.opid))
+IsPendingIn log commit p = (commit < p.opid.position) × ((e : Entry) × (entry_at log p.opid.position ≡ Some e) × (e.opid ≡ p.opid) × (gtid_of e ≡ Some p.gtid))
 
 abbrev pub TransferFits : Layout → ℕ → Transfer → Type 0
 TransferFits ring me transfer.Off = Unit {0}

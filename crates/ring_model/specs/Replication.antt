@@ -49,10 +49,11 @@ abbrev pub silent_of : List Peer → ℕ → ℕ
 silent_of [] id = 0
 silent_of (p ∷ peers) id = if p.node == id then p.silent else silent_of peers id
 
--- the proxy through which a member of another region is sent to: the first member of its region, if that is another and was not silent for three beats
+-- the first member declared in the region of a member
 abbrev pub proxy_id : Layout → ℕ → ℕ
 proxy_id ring id = option_map_or (λ (m : Member). m.id) (proxy_of ring (region_of ring id)) id
 
+-- the member is in another region, is not its region's proxy, and the proxy was not silent for three beats
 abbrev pub is_proxied : Layout → ℕ → List Peer → ℕ → Bool
 is_proxied ring me peers id =
     not (region_of ring id == region_of ring me) && not (proxy_id ring id == id) && nat_lt (silent_of peers (proxy_id ring id)) 3

@@ -46,10 +46,10 @@ pub record OneLeaderATerm (w : WorldState) (held : List Election) : Type 0 where
   pub once : (e f : Election) → Contains held e → Contains held f → e.term ≡ f.term → e ≡ f
   pub elected : (id : ℕ) (s : Soft) → Leads w id s → (e : Election) × Contains held e × (e.node ≡ id) × (e.term ≡ (w.nodes id).durable.term)
 
--- on each running node with an engine the prepared pairs are those of the transactions above its applied count up to some position, in order; a logtailer has none
+-- on each running node with an engine the prepared pairs are those of the transactions above its applied count up to some position, in order; a logtailer, running or down, has none and has applied nothing
 pub record PreparedAgrees (ring : Layout) (w : WorldState) : Type 0 where
   pub engine : (id : ℕ) (s : Soft) → Runs w id s → runs_engine ring id ≡ true → ArePairsAbove (w.nodes id).durable.log (w.nodes id).durable.applied (w.nodes id).durable.prepared
-  pub tailer : (id : ℕ) (s : Soft) → Runs w id s → runs_engine ring id ≡ false → ((w.nodes id).durable.prepared ≡ []) × ((w.nodes id).durable.applied ≡ 0)
+  pub tailer : (id : ℕ) → runs_engine ring id ≡ false → ((w.nodes id).durable.prepared ≡ []) × ((w.nodes id).durable.applied ≡ 0)
 
 -- each transaction of the chosen sequence is accepted by the rows of those before it, and no GTID comes twice
 pub record ChosenIsValid (ring : Layout) (w : WorldState) : Type 0 where
@@ -73,8 +73,8 @@ NeverTorn ring run = (before after : List Move) (m : Move) → run ≡ before ++
 -- where an event changed the chosen sequence, the acting node was elected in its term
 abbrev pub ChosenByLeader : Layout → List Move → Type 0
 ChosenByLeader ring run = (before : List Move) (m : Move) → run ≡ before ++ m ∷ [] → length (world ring before).chosen < length (world ring run).chosen
-    → (id : ℕ) (task : Task) → acting (world ring before) m.event.what ≡ Some (id, task)
-    → (e : Election) × Contains (elections ring run) e × (e.node ≡ id) × (e.term ≡ ((world ring run).nodes id).durable.term)
+    → (e : Election) × (task : Task) × Contains (elections ring run) e × (acting (world ring before) m.event.what ≡ Some (e.node, task))
+        × (e.term ≡ ((world ring run).nodes e.node).durable.term)
 
 pub record ChosenGrows (ring : Layout) (run : List Move) : Type 0 where
   pub grows : ChosenOnlyGrows ring run
@@ -92,6 +92,10 @@ pub record Safe (ring : Layout) (run : List Move) : Type 0 where
   pub chosen_grows : ChosenGrows ring run
 
 -- ---- over time
+-- for every ring and every run of it
+abbrev pub EveryRunIsSafe : Type 0
+EveryRunIsSafe = (ring : Layout) (run : List Move) → IsRun ring run → Safe ring run
+
 -- what a running node committed stands in the log of each leader of the same or a later term, at once and after any further events
 abbrev pub LeadersHave : Layout → List Move → Type 0
 LeadersHave ring run = (before after : List Move) (i j : ℕ) (s o : Soft) → run ≡ before ++ after
@@ -99,7 +103,7 @@ LeadersHave ring run = (before after : List Move) (i j : ℕ) (s o : Soft) → r
     → ((world ring before).nodes i).durable.term ≤ ((world ring run).nodes j).durable.term
     → Agree s.commit ((world ring before).nodes i).durable.log ((world ring run).nodes j).durable.log
 
--- the clauses of Safe that are proved, with what holds over time
+-- the clauses of Safe that need no rows, and what committed entries are to later leaders
 pub record SafeSoFar (ring : Layout) (run : List Move) : Type 0 where
   pub applied_prefix : AppliedPrefix (world ring run)
   pub one_leader_a_term : OneLeaderATerm (world ring run) (elections ring run)

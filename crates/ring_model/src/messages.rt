@@ -58,7 +58,8 @@ pub struct Append {
     pub entries: List<Entry>,
 }
 
-/// The answer: `position` is the last matched one, or where the leader may try again.
+/// The answer: `position` is the last matched one, or, where not ok, the position after which the
+/// leader may send next.
 #[derive(Clone, Copy, Debug, PartialEq, Eq)]
 pub struct AppendReply {
     pub term: u64,

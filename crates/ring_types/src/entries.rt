@@ -97,7 +97,7 @@ pub struct Pair {
     pub txn: Txn,
 }
 
-/// The first change, counted from 0, that writes a key which a prepared transaction writes, and
+/// The first change, counted from 1, that writes a key which a prepared transaction writes, and
 /// that transaction's opid.
 #[derive(Clone, Copy, Debug, PartialEq, Eq)]
 pub struct Conflict {

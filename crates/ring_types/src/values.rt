@@ -37,7 +37,8 @@ pub struct Txn {
     pub changes: List<Change>,
 }
 
-/// Why the tables refuse a change, in the order in which the causes are tested.
+/// Why the tables refuse a change, in the order of their numbers. A table that is not there is
+/// tested first, then the fit of the row or key, then the key.
 #[derive(Clone, Copy, Debug, PartialEq, Eq)]
 pub enum RowRefusal {
     /// The schema has no table of that name.
