@@ -1,10 +1,9 @@
 -- the GTIDs and the greatest number of a log, one entry at a time
-use Rattle.std.proofs.Common.{◌≡◌, ℕ, ◌+◌, ◌<◌, ◌==◌, Bool, List, [], ◌∷◌, ◌++◌, length, get_or, take, drop, map, filter, filter_map, fold, max, sym, ap, ◌∙◌, arith}
+use Rattle.std.proofs.Common.{◌≡◌, ℕ, ◌+◌, ◌<◌, List, [], ◌∷◌, ◌++◌, length, get_or, take, fold, max, ap, ◌∙◌, arith}
 use Rattle.std.proofs.lemmas.List.{map-append}
 use Rattle.std.proofs.lemmas.List.Elements.{filter-append, filter_map-append}
-use Rattle.std.proofs.lemmas.Grind.{fold-append, take_at_read, common_steps}
+use Rattle.std.proofs.lemmas.Grind.{fold-append, take_at_read}
 use Rattle.ring_types.specs.Gtids.{gtid_of, gtids_in, numbers_of, greatest_number}
-use Rattle.ring_types.specs.declared.values.Gtid.{Gtid}
 use Rattle.ring_types.specs.declared.entries.Entry.{Entry}
 
 abbrev greatest_of : List ℕ → ℕ

@@ -1,5 +1,5 @@
 -- the row image that has the key alone
-use Rattle.std.proofs.Common.{◌≡◌, ℕ, ◌+◌, ◌≤◌, List, [], ◌∷◌, length, get_or, refl, ap, arith}
+use Rattle.std.proofs.Common.{◌≡◌, ◌+◌, ◌≤◌, List, [], ◌∷◌, length, get_or, refl, ap, arith}
 use Rattle.ring_types.specs.Sizes.{value_size, values_size, image_size}
 use Rattle.ring_types.specs.declared.schemas.Column.{Column}
 use Rattle.ring_types.specs.declared.values.Value.{Value}

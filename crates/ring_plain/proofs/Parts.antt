@@ -1,5 +1,5 @@
 -- a list with one item replaced, from the items before it and after it
-use Rattle.std.proofs.Common.{◌≡◌, ℕ, ◌+◌, ◌-◌, ◌<◌, ◌≤◌, List, [], ◌∷◌, ◌++◌, length, slice_set, take, drop, arith}
+use Rattle.std.proofs.Common.{◌≡◌, ℕ, ◌+◌, ◌-◌, ◌<◌, List, [], ◌∷◌, ◌++◌, length, slice_set, take, drop, arith}
 use Rattle.std.proofs.lemmas.List.{take-append-drop, take-set, drop-set, take_all, length-drop, append_assoc}
 
 pub slice_set_parts : {A : Type 0} (xs : List A) (n : ℕ) (v : A) → n < length xs → (take n xs ++ (v ∷ [])) ++ take (length xs - (n + 1)) (drop (n + 1) xs) ≡ slice_set xs n v

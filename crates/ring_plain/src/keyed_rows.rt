@@ -2,8 +2,8 @@ ghost use Rattle.std.specs.Prelude.{◌≡◌, IfOk};
 ghost use Rattle.std.specs.Option.{option_copied};
 ghost use Rattle.ring_types.specs.Rows as spec;
 
-use crate::lists::joined;
 use crate::fitting::{has_lesser_key, has_this_key};
+use crate::lists::joined;
 use ring_types::{Change, Duplicate, List, Memory, RowRefusal, Value};
 use std::alloc::Global;
 
@@ -37,7 +37,6 @@ pub fn without_key(
     }
     Ok(kept)
 }
-
 
 /// Copies of the rows with a copy of this one before the first that has a greater key.
 pub fn placed(

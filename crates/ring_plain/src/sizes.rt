@@ -147,7 +147,11 @@ pub fn rows_event_size(table: &Table, change: &Change) -> u64
     let bitmap = bitmap_size(columns.len());
     match change {
         Change::Insert { row, .. } => {
-            total(&[rows_head(table), bitmap, image_size(columns, row.as_slice())])
+            total(&[
+                rows_head(table),
+                bitmap,
+                image_size(columns, row.as_slice()),
+            ])
         }
         Change::Update { row, .. } => update_size(table, row.as_slice()),
         Change::Delete { key, .. } => {

@@ -1,5 +1,5 @@
-use Rattle.std.proofs.Common.{◌∙◌, ◌++◌, ◌∷◌, [], ap, List, take, drop, ◌-◌, ◌+◌, length, arith}
-use Rattle.ring_types.specs.Rows.{Rows, Tables}
+use Rattle.std.proofs.Common.{◌∙◌, ◌++◌, ◌∷◌, [], ap, take, drop, ◌-◌, ◌+◌, length, arith}
+use Rattle.ring_types.specs.Rows.{Tables}
 use Rattle.ring_plain.proofs.Parts.{slice_set_parts}
 use Rattle.ring_plain.proofs.table_rows.with_rows_at.Goals as goal
 
