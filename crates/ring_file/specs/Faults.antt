@@ -11,9 +11,12 @@ abbrev pub ◌>>=◌ : {A B : Type 0} → Result A RingError → (A → Result B
 Ok x >>= next = next x
 Err e >>= next = Err e
 
--- what a call answers where this is to be made: the same, or want of memory
+-- what a call answers where this is to be made, with its result as `see` sees it: the same, or want of memory
+abbrev pub GivesAs : {A B : Type 0} → (B → A) → Result A RingError → Result B RingError → Type 0
+GivesAs see wanted result = MatchResult result (λ x. wanted ≡ Ok (see x)) (λ e. ¬ (e ≡ fault.Memory) → wanted ≡ Err e)
+
 abbrev pub Gives : {A : Type 0} → Result A RingError → Result A RingError → Type 0
-Gives wanted result = MatchResult result (λ x. wanted ≡ Ok x) (λ e. ¬ (e ≡ fault.Memory) → wanted ≡ Err e)
+Gives wanted result = GivesAs (λ x. x) wanted result
 
 -- ---- places
 -- a key of the table of that number in an array

@@ -4,7 +4,11 @@
 //! is named by its place in the document, as `home` or `node[2].kind`.
 #![tactic(auto)]
 
+mod columns;
 mod faults;
 mod keys;
+mod reading;
+mod tables;
+mod values;
 
 pub use faults::RingError;
