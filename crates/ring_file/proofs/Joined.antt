@@ -23,10 +23,10 @@ pub after-table : {A : Type 0} (reads : ℕ → Members → Result A RingError) 
     → i < length array → get_or array i value ≡ value → as_table (view value) ≡ Some members → reads (i + 1) members ≡ Ok x
     → after xs (each_table reads (i + 1) (items_view (drop i array))) ≡ after (xs ++ x ∷ []) (each_table reads (i + 1 + 1) (items_view (drop (i + 1) array)))
 after-table reads array i value table xs x within at is read =
-    rw (items_view-drop array i value within, at) (rw (is, each_table) (rw read (one_more xs x _)))
+    rw (items_view-drop array i value within, at) (rw is (rw read (one_more xs x _)))
 
 -- an item that is no table was passed
 pub after-other : {A : Type 0} (reads : ℕ → Members → Result A RingError) (array : List Value) (i : ℕ) (value : Value) (xs : List A)
     → i < length array → get_or array i value ≡ value → as_table (view value) ≡ None
     → after xs (each_table reads (i + 1) (items_view (drop i array))) ≡ after xs (each_table reads (i + 1 + 1) (items_view (drop (i + 1) array)))
-after-other reads array i value xs within at is = rw (items_view-drop array i value within, at) (rw (is, each_table))
+after-other reads array i value xs within at is = rw (items_view-drop array i value within, at) (rw is)

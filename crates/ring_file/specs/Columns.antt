@@ -26,9 +26,12 @@ is_digit byte = nat_le 48 byte && nat_le byte 57
 abbrev pub is_numeral : List ℕ → Bool
 is_numeral text = nat_le 1 (length text) && not (slice_index text 0 == 48) && list_all is_digit text
 
--- the number of bytes that a text column takes, from 1 to 16000
+-- how many bytes a text column takes: from 1 to 16000
+abbrev pub is_limit : ℕ → Bool
+is_limit n = nat_le 1 n && nat_le n 16000
+
 abbrev pub limit_of : List ℕ → Option ℕ
-limit_of text = if is_numeral text && nat_le (digits_value 10 text) 16000 then Some (digits_value 10 text) else None
+limit_of text = if is_numeral text && is_limit (digits_value 10 text) then Some (digits_value 10 text) else None
 
 -- `int`, or `text N`
 abbrev pub shape_of : List ℕ → Option Shape

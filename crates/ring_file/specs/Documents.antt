@@ -1,5 +1,5 @@
 -- The ring that a ring file declares, or the first fault of the document.
-use Rattle.std.specs.Prelude.{ℕ, ◌+◌, List, [], ◌∷◌, codes, if◌then◌else◌, Option, Some, None, Result, Ok, Err}
+use Rattle.std.specs.Prelude.{ℕ, ◌+◌, List, [], ◌∷◌, codes, if◌then◌else◌, Option, Some, None, option_map, Result, Ok, Err}
 use Rattle.std.specs.Str.{is_utf8}
 use Rattle.toml.specs.Data.{Data, Items, no_items, item, Members, get_member, as_table}
 use Rattle.toml.specs.Parse.{parse_document}
@@ -9,6 +9,7 @@ use Rattle.ring_types.specs.declared.members.RingParts.{RingParts}
 use Rattle.ring_types.specs.declared.schemas.Table.{Table}
 use Rattle.ring_types.specs.declared.schemas.Schema.{Schema}
 use Rattle.ring_types.specs.declared.rings.BuildError.{BuildError}
+use Rattle.ring_types.specs.declared.rings.BuildError.TheVariants as refusal
 use Rattle.ring_types.specs.Rings.{Layout, built}
 use Rattle.ring_file.specs.Faults.{◌>>=◌, place, in_range}
 use Rattle.ring_file.specs.Keys.{keys_fit}
@@ -21,31 +22,39 @@ use Rattle.ring_file.specs.declared.faults.Within.{Within}
 use Rattle.ring_file.specs.declared.faults.Within.TheVariants as within
 
 -- ---- the value at a key
--- of a key that the table needs
+-- the value that a key has, of a key that the table needs
+abbrev pub value_from : {A : Type 0} → (Data → Option A) → Within → List ℕ → Option Data → Result A RingError
+value_from reads table key None = Err (fault.Missing (place table key))
+value_from reads table key (Some value) = in_range table key (reads value)
+
 abbrev pub value_at : {A : Type 0} → (Data → Option A) → Within → List ℕ → Members → Result A RingError
-value_at reads table key members = elim (get_member key members) [
-  | None ↦ Err (fault.Missing (place table key))
-  | Some value ↦ in_range table key (reads value)
-]
+value_at reads table key members = value_from reads table key (get_member key members)
 
 -- of a key that may be left out
+abbrev pub option_from : {A : Type 0} → (Data → Option A) → Within → List ℕ → Option Data → Result (Option A) RingError
+option_from reads table key None = Ok None
+option_from reads table key (Some value) = in_range table key (reads value) >>= (λ x. Ok (Some x))
+
 abbrev pub option_at : {A : Type 0} → (Data → Option A) → Within → List ℕ → Members → Result (Option A) RingError
-option_at reads table key members = elim (get_member key members) [
-  | None ↦ Ok None
-  | Some value ↦ in_range table key (reads value) >>= (λ x. Ok (Some x))
-]
+option_at reads table key members = option_from reads table key (get_member key members)
 
 -- the array of tables at a key of the top table; none where it is left out
+abbrev pub tables_from : List ℕ → Option Data → Result Items RingError
+tables_from key None = Ok no_items
+tables_from key (Some value) = in_range within.Top key (tables_in value)
+
 abbrev pub tables_at : List ℕ → Members → Result Items RingError
-tables_at key top = elim (get_member key top) [ None ↦ Ok no_items | Some value ↦ in_range within.Top key (tables_in value) ]
+tables_at key top = tables_from key (get_member key top)
+
+-- what one table declares, before what those after it declare
+abbrev pub before_rest : {A : Type 0} → Option (Result A RingError) → Result (List A) RingError → Result (List A) RingError
+before_rest None rest = rest
+before_rest (Some one) rest = one >>= (λ x. rest >>= (λ xs. Ok (x ∷ xs)))
 
 -- what the tables of an array declare, where the first has this number
 abbrev pub each_table : {A : Type 0} → (ℕ → Members → Result A RingError) → ℕ → Items → Result (List A) RingError
 each_table reads number no_items = Ok []
-each_table reads number (item value rest) = elim (as_table value) [
-  | None ↦ each_table reads (number + 1) rest
-  | Some members ↦ reads number members >>= (λ x. each_table reads (number + 1) rest >>= (λ xs. Ok (x ∷ xs)))
-]
+each_table reads number (item value rest) = before_rest (option_map (reads number) (as_table value)) (each_table reads (number + 1) rest)
 
 -- ---- the tables
 unfoldable pub node_of : ℕ → Members → Result MemberPart RingError
@@ -111,6 +120,11 @@ as_toml (Some members) = Ok members
 -- bytes that are not UTF-8 are no TOML
 unfoldable pub document_of : List ℕ → Result Members RingError
 document_of bytes = if is_utf8 bytes then as_toml (parse_document bytes) else Err fault.NotToml
+
+-- what is answered where the building of the ring answers this: want of memory stays what it is
+abbrev pub fault_of : BuildError → RingError
+fault_of refusal.Memory = fault.Memory
+fault_of cause = fault.Build cause
 
 abbrev pub as_ring : Result Layout BuildError → Result Layout RingError
 as_ring (Ok ring) = Ok ring

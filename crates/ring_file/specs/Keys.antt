@@ -31,12 +31,20 @@ first_unknown table no_members = None
 first_unknown table (member key value rest) = if is_key table key then first_unknown table rest else Some key
 
 -- no key of the table is unknown
+abbrev pub known_but : Within → Option (List ℕ) → Result ⊤ RingError
+known_but table None = Ok tt
+known_but table (Some key) = Err (fault.Unknown (place table key))
+
 abbrev pub all_known : Within → Members → Result ⊤ RingError
-all_known table members = elim (first_unknown table members) [ None ↦ Ok tt | Some key ↦ Err (fault.Unknown (place table key)) ]
+all_known table ms = known_but table (first_unknown table ms)
 
 -- the key is there
+abbrev pub is_there : Within → List ℕ → Option Data → Result ⊤ RingError
+is_there table key None = Err (fault.Missing (place table key))
+is_there table key (Some value) = Ok tt
+
 abbrev pub needs : Within → List ℕ → Members → Result ⊤ RingError
-needs table key members = elim (get_member key members) [ None ↦ Err (fault.Missing (place table key)) | Some value ↦ Ok tt ]
+needs table key ms = is_there table key (get_member key ms)
 
 -- all these keys are there
 abbrev pub needs_all : Within → List (List ℕ) → Members → Result ⊤ RingError
@@ -45,4 +53,4 @@ needs_all table (key ∷ keys) ms = needs table key ms >>= (λ _. needs_all tabl
 
 -- no key is unknown, and then each that is needed is there
 unfoldable pub keys_fit : Within → Members → Result ⊤ RingError
-keys_fit table members = all_known table members >>= (λ _. needs_all table (needed_keys table) members)
+keys_fit table ms = all_known table ms >>= (λ _. needs_all table (needed_keys table) ms)

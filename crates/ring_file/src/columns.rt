@@ -48,7 +48,7 @@ fn limit_of(text: &str) -> Option<u16>
     }
     match text.parse::<u16>() {
         Ok(limit) => {
-            if limit <= 16000 {
+            if 1 <= limit && limit <= 16000 {
                 Some(limit)
             } else {
                 None

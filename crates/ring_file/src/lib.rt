@@ -12,3 +12,4 @@ mod tables;
 mod values;
 
 pub use faults::RingError;
+pub use reading::read_ring;

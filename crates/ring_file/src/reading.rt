@@ -1,11 +1,13 @@
+ghost use Rattle.std.specs.Prelude.{◌≡◌, true};
 ghost use Rattle.toml.specs.View.{table_view};
 ghost use Rattle.ring_file.specs.Faults.{Gives, GivesAs};
-ghost use Rattle.ring_file.specs.Documents.{heading_of, parts_of, document_of};
+ghost use Rattle.ring_file.specs.Documents.{heading_of, parts_of, document_of, fault_of, as_ring, ring_of};
+ghost use Rattle.ring_types.specs.Rings.{is_in_range, built};
 
 use crate::faults::{RingError, Within};
 use crate::keys::check_keys;
 use crate::tables::{name_at, names_at, number_at, read_clients, read_nodes, read_tables, tables_at};
-use ring_types::{List, RingParts, Schema, Text};
+use ring_types::{BuildError, List, Ring, RingParts, Schema, Text};
 use std::alloc::Global;
 use toml::Table;
 
@@ -69,4 +71,37 @@ fn read_parts(alloc: Global, document: &Table) -> Result<RingParts, RingError>
             tables,
         },
     })
+}
+
+fn fault_of(cause: BuildError) -> RingError
+    ensures { result ≡ fault_of cause }
+{
+    match cause {
+        BuildError::Memory => RingError::Memory,
+        _ => RingError::Build(cause),
+    }
+}
+
+/// The ring of parts that are in their ranges.
+fn build(alloc: Global, parts: RingParts) -> Result<Ring, RingError>
+    requires { is_in_range parts ≡ true }
+    ensures { Gives (as_ring (built parts)) result }
+{
+    match Ring::build(alloc, parts) {
+        Ok(ring) => Ok(ring),
+        Err(cause) => Err(fault_of(cause)),
+    }
+}
+
+/// Reads a ring file. The faults come in this order: the whole as TOML, the top table, each node,
+/// each client and each table, and then what the building of the ring refuses. Within one table the
+/// unknown key that is least by bytes comes first, then a key that is missing, then a value that is
+/// outside its range.
+#[tactic(auto, using(crate::proofs::Ranges::parts_fit), unfolding(crate::specs::Documents::ring_of))]
+pub fn read_ring(alloc: Global, bytes: &[u8]) -> Result<Ring, RingError>
+    ensures { Gives (ring_of bytes.now) result }
+{
+    let document = read_document(alloc, bytes)?;
+    let parts = read_parts(alloc, &document)?;
+    build(alloc, parts)
 }
