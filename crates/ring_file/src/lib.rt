@@ -9,6 +9,8 @@ mod faults;
 mod keys;
 mod reading;
 mod tables;
+#[cfg(test)]
+mod tests;
 mod values;
 
 pub use faults::RingError;
