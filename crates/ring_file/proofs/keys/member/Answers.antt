@@ -1,0 +1,6 @@
+-- the map of the table finds what its members have
+use Rattle.toml.proofs.Views.{table_get}
+use Rattle.ring_file.proofs.keys.member.Goals as goal
+
+pub returns : goal.returns
+returns c = table_get c.get.result c.args.key.now c.args.table.now.entries c.get.ensures.value

@@ -1,0 +1,17 @@
+//! Ring files: the TOML text that declares a ring.
+//!
+//! [`read_ring`] reads the text, tests each table of it in order and builds the ring. The first fault
+//! is named by its place in the document, as `home` or `node[2].kind`.
+#![tactic(auto)]
+
+mod columns;
+mod faults;
+mod keys;
+mod reading;
+mod tables;
+#[cfg(test)]
+mod tests;
+mod values;
+
+pub use faults::RingError;
+pub use reading::read_ring;
