@@ -74,7 +74,7 @@ closure_hears ring (suc n) regions pool p le c t = go ring n regions pool p le c
         later ring n regions pool p q qs c is false h f = f (filter_keeps (is_unheard ring regions) pool p c (ap not h))
 
 -- ---- reports
-is_between : (low high : ℕ) (v : Vote) → low < v.term → v.term < high → lies_between low high v ≡ true
+pub is_between : (low high : ℕ) (v : Vote) → low < v.term → v.term < high → lies_between low high v ≡ true
 is_between low high v a b = grind (arith, nat_tests)
 
 reports_have : (low high : ℕ) (grants : List Grant) (g : Grant) (v : Vote) → Contains grants g → Contains g.votes v → low < v.term → v.term < high → Contains (reports low high grants) (record { voter = g.voter; region = v.region })
