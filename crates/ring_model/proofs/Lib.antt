@@ -17,3 +17,9 @@ pub mod Plain
 pub mod Elect
 pub mod OnRequest
 pub mod OnReply
+pub mod OnAppend
+pub mod OnAnswer
+pub mod Relay
+pub mod Beat
+pub mod Writes
+pub mod Transfers
