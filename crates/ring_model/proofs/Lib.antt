@@ -23,3 +23,4 @@ pub mod Relay
 pub mod Beat
 pub mod Writes
 pub mod Transfers
+pub mod Dispatch
