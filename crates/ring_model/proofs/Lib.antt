@@ -24,3 +24,5 @@ pub mod Beat
 pub mod Writes
 pub mod Transfers
 pub mod Dispatch
+pub mod Events
+pub mod Runs

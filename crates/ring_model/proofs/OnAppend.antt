@@ -138,7 +138,7 @@ module _ (ring : Layout) (h : History) (id : ℕ) (e : Durable) (k : IsHistory r
                 follows = λ j in_j. inl (agree_more j e.log (x ∷ rest) in_j);
                 log = subst (λ (l : List Entry). IsBookedLog ring h e.term (l ++ (x ∷ rest))) all new_log;
               }) refl) Ends;
-            quiet = refl;
+            quiet = refl {a = []};
             term = refl;
             applied = refl;
             agrees = subst (λ (l : List Entry). Agree (prev.position + length es) (l ++ (x ∷ rest)) (h.book e.term)) all new_agrees;
