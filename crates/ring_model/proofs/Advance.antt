@@ -1,5 +1,5 @@
 -- The end of a leader's step: its commit count rises only to what a quorum holds, and the engine follows it; so no such step breaks the invariant.
-use Rattle.std.proofs.Common.{◌≡◌, ℕ, ◌+◌, ◌-◌, ◌<◌, ◌≤◌, ◌==◌, ◌⊎◌, ◌&&◌, ◌||◌, [], ◌∷◌, ◌++◌, ◌∙◌, if◌then◌else◌, Bool, List, None, Option, Some, ap, arith, false, inl, inr, length, refl, subst, suc, sym, true, zero}
+use Rattle.std.proofs.Common.{◌≡◌, ℕ, ◌+◌, ◌-◌, ◌<◌, ◌≤◌, ◌==◌, [], ◌∷◌, ◌++◌, ◌∙◌, if◌then◌else◌, Bool, List, None, Option, Some, ap, arith, false, inl, inr, length, refl, subst, suc, sym, true, zero}
 use Rattle.std.proofs.lemmas.Bool.Decides.{nat_tests}
 use Rattle.std.specs.List.{Contains}
 use Rattle.std.specs.Prelude.{nat_le}
@@ -78,9 +78,9 @@ engine_path ring id h (suc n) a d l pairs is le s =
     let e : Durable = all_done d (prepare_entry pairs (entry_at l (suc a))) in
     let same = p.same in
     let sealed : IsSealed ring h e.term (suc a) e.log =
-        subst (λ (t : ℕ). IsSealed ring h t (suc a) e.log) (sym same.term) (subst (λ (w : List Entry). IsSealed ring h d.term (suc a) w) (sym (same.log ∙ is)) (seal_less ring h d.term (a + suc n) (suc a) l (omega arith) s)) in
+    subst (λ (t : ℕ). IsSealed ring h t (suc a) e.log) (sym same.term) (subst (λ (w : List Entry). IsSealed ring h d.term (suc a) w) (sym (same.log ∙ is)) (seal_less ring h d.term (a + suc n) (suc a) l (omega arith) s)) in
     let ih = engine_path ring id h n (suc a) (done e (action.Commit (suc a))) l pairs (same.log ∙ is) (omega arith)
-        (subst (λ (t : ℕ). IsSealed ring h t (suc a + n) l) (sym same.term) (seal_less ring h d.term (a + suc n) (suc a + n) l (omega arith) s)) in
+    (subst (λ (t : ℕ). IsSealed ring h t (suc a + n) l) (sym same.term) (seal_less ring h d.term (a + suc n) (suc a + n) l (omega arith) s)) in
     let j = done_join d (prepare_entry pairs (entry_at l (suc a))) (action.Commit (suc a) ∷ engine_actions l pairs (suc a) n) in
     record {
       path = path_join ring id h h h d (prepare_entry pairs (entry_at l (suc a))) (action.Commit (suc a) ∷ engine_actions l pairs (suc a) n) p.path (Goes_on (Applies (suc a) refl sealed refl) ih.path);
@@ -121,6 +121,7 @@ holder_is p (x ∷ peers) v c = go (nat_le p x.matched) refl c (holder_is p peer
   where
     more : ((y : Peer) × Contains peers y × (y.node ≡ v) × (p ≤ y.matched)) → (y : Peer) × Contains (x ∷ peers) y × (y.node ≡ v) × (p ≤ y.matched)
     more y = (y.0, (suc y.1.0, omega (arith, y.1.1), y.1.2), y.2, y.3)
+
     go : (b : Bool) → nat_le p x.matched ≡ b → Contains (holders p (x ∷ peers)) v → (Contains (holders p peers) v → (y : Peer) × Contains peers y × (y.node ≡ v) × (p ≤ y.matched)) → (y : Peer) × Contains (x ∷ peers) y × (y.node ≡ v) × (p ≤ y.matched)
     go true is c ih = let d = rw is at c in elim (cons_cases x.node (holders p peers) v d) [ inl here ↦ (x, (zero, omega arith, refl), here, grind (arith, nat_tests, is)) | inr there ↦ more (ih there) ]
     go false is c ih = let d = rw is at c in more (ih d)
@@ -135,13 +136,15 @@ count_sealed ring h id d s k n x sealed = go (commit_count ring id d.term d.log 
         split : (b : Bool) → (term_at d.log p == d.term) ≡ b → may_commit ring id d.term d.log s.peers p ≡ true → (term_at d.log p ≡ d.term) × (commits ring (region_of ring id) (id ∷ holders p s.peers) ≡ true)
         split true is t = (grind (arith, nat_tests, is), let u = rw is at t in u)
         split false is t = absurd (let u = rw is at t in let z : false ≡ true = u in cc)
+
     go : (b : ℕ) → IsGreatest (may_commit ring id d.term d.log s.peers) s.commit (length d.log) b → IsSealed ring h d.term b d.log × (s.commit ≤ b)
     go b (At_floor is) = (subst (λ (c : ℕ). IsSealed ring h d.term c d.log) (sym is) sealed, omega arith)
     go b (At_found low high t) =
-        let y = pass b t in
-        (leader_commits ring h id d k n s b (id ∷ holders b s.peers) x high y.0 y.1
-          (λ v in_v. elim (cons_cases id (holders b s.peers) v in_v) [ inl here ↦ inl (sym here) | inr there ↦ inr (holder_is b s.peers v there) ]),
-         omega arith)
+        let y = pass b t in (
+          leader_commits ring h id d k n s b (id ∷ holders b s.peers) x high y.0 y.1
+              (λ v in_v. elim (cons_cases id (holders b s.peers) v in_v) [ inl here ↦ inl (sym here) | inr there ↦ inr (holder_is b s.peers v there) ]),
+          omega arith,
+        )
 
 pub leader_at : (h : History) (id : ℕ) (d e : Durable) (s o : Soft) → e.term ≡ d.term → length d.log ≤ length e.log → o.peers ≡ s.peers → IsLeader h id d s → IsLeader h id e o
 leader_at h id d e s o t more p x = record {
@@ -184,7 +187,7 @@ advance_row ring h m id d o s first says p k n role x sealed le rising =
       sends = Sent_all;
       role = subst (λ (w : Durable). HasRole m id w t s.role) (sym j)
           (subst (λ (r : Role). HasRole m id (all_done e (follow_actions ring id e c)) t r) (sym role)
-            (leader_at m id e (all_done e (follow_actions ring id e c)) s t f.after.term (omega (arith, ap length f.after.log)) refl x));
+          (leader_at m id e (all_done e (follow_actions ring id e c)) s t f.after.term (omega (arith, ap length f.after.log)) refl x));
       sealed = subst (λ (w : Durable). IsSealed ring m w.term c w.log) (sym j)
           (subst (λ (u : ℕ). IsSealed ring m u c (all_done e (follow_actions ring id e c)).log) (sym f.after.term) (subst (λ (l : List Entry). IsSealed ring m e.term c l) (sym f.after.log) y.0));
       applied = subst (λ (w : Durable). w.applied ≤ c) (sym j) f.after.applied;

@@ -1,5 +1,5 @@
 -- Each leader from an election's base term on is of a region that the election needs; so a term has one leader, and what is committed stays with each later leader.
-use Rattle.std.proofs.Common.{◌≡◌, ℕ, ◌+◌, ◌-◌, ◌<◌, ◌≤◌, ◌==◌, ◌⊎◌, ◌&&◌, ◌||◌, [], ◌∷◌, ◌++◌, ◌∙◌, if◌then◌else◌, List, ap, arith, inl, inr, length, refl, subst, suc, sym, true, zero}
+use Rattle.std.proofs.Common.{◌≡◌, ℕ, ◌+◌, ◌<◌, ◌≤◌, ◌∙◌, List, ap, arith, inl, inr, length, refl, subst, suc, sym, true, zero}
 use Rattle.std.proofs.lemmas.Bool.{cases_lt}
 use Rattle.std.specs.List.{Contains}
 use Rattle.ring_types.specs.declared.entries.Entry.{Entry}
@@ -43,7 +43,6 @@ pub record IsElection (ring : Layout) (h : History) (e : Election) : Type 0 wher
   pub grants : (g : Grant) → Contains e.grants g → IsGrant h e.node e.term (last e.base) g
 
 module _ (ring : Layout) (h : History) (k : IsHistory ring h) where
-
   pub is_election : (e : Election) → Contains h.elections e → IsElection ring h e
   is_election e in_e = let x = k.elections e in_e in record { won = x.won; base = x.base; base_below = x.base_below; grants = x.grants }
 
@@ -105,12 +104,12 @@ module _ (ring : Layout) (h : History) (k : IsHistory ring h) where
   meets n f e ih vf in_e low high sum a is_a b is_b (At_led fb in_fb ta ra) (At_led eb in_eb tb rb) =
       let ve = is_election e in_e in
       elim (cases_lt a b) [
-        inl lt ↦
-          let x : Needed ring f (region_of ring eb.node) = ih f eb vf in_eb (omega arith) (omega (arith, ve.base_below)) (omega (arith, ve.base_below)) in
-          meet_in f e (region_of ring eb.node) vf ve x (subst (Needed ring e) (sym rb) (needs_base e))
-      | inr ge ↦
-          let x : Needed ring e (region_of ring fb.node) = ih e fb ve in_fb (omega arith) (omega arith) (omega (arith, vf.base_below)) in
-          meet_in f e (region_of ring fb.node) vf ve (subst (Needed ring f) (sym ra) (needs_base f)) x
+        | inl lt ↦
+            let x : Needed ring f (region_of ring eb.node) = ih f eb vf in_eb (omega arith) (omega (arith, ve.base_below)) (omega (arith, ve.base_below)) in
+            meet_in f e (region_of ring eb.node) vf ve x (subst (Needed ring e) (sym rb) (needs_base e))
+        | inr ge ↦
+            let x : Needed ring e (region_of ring fb.node) = ih e fb ve in_fb (omega arith) (omega arith) (omega (arith, vf.base_below)) in
+            meet_in f e (region_of ring fb.node) vf ve (subst (Needed ring f) (sym ra) (needs_base f)) x
       ]
 
   -- the region of a leader whose voter also granted the later election is needed there
@@ -130,11 +129,11 @@ module _ (ring : Layout) (h : History) (k : IsHistory ring h) where
   cover_below (suc n) f e vf in_e low high sum =
       let ve = is_election e in_e in
       elim (cases_lt (last_term f.base) e.term) [
-        inl lt ↦ cover_vote f e vf ve lt high
+        | inl lt ↦ cover_vote f e vf ve lt high
             (meets n f e (cover_below n) vf in_e lt (omega arith) (omega arith) (last_term f.base) refl (last_term e.base) refl (base_region f vf) (base_region e ve))
-      | inr ge ↦
-          let same = region_once (last_term f.base) (base_region_of ring f) (region_of ring e.node) (base_region f vf) (At_led e in_e (omega arith) refl) in
-          subst (Needed ring f) same (needs_base f)
+        | inr ge ↦
+            let same = region_once (last_term f.base) (base_region_of ring f) (region_of ring e.node) (base_region f vf) (At_led e in_e (omega arith) refl) in
+            subst (Needed ring f) same (needs_base f)
       ]
 
   pub leaders_covered : (f e : Election) → IsElection ring h f → Contains h.elections e → last_term f.base ≤ e.term → e.term < f.term
@@ -147,7 +146,7 @@ module _ (ring : Layout) (h : History) (k : IsHistory ring h) where
   leader_once f e vf in_e same =
       let ve = is_election e in_e in
       let m = meets (f.term + f.term) f e (cover_below (f.term + f.term)) vf in_e (omega (arith, vf.base_below)) (omega arith) (omega arith)
-          (last_term f.base) refl (last_term e.base) refl (base_region f vf) (base_region e ve) in
+      (last_term f.base) refl (last_term e.base) refl (base_region f vf) (base_region e ve) in
       let c = vf.grants m.first.0 m.first.1 in
       let d = ve.grants m.second.0 m.second.1 in
       let one : c.cast ≡ d.cast = k.one_vote c.cast d.cast c.was_cast d.was_cast (c.by ∙ (m.first.2 ∙ sym (d.by ∙ m.second.2))) (c.of_term ∙ (same ∙ sym d.of_term)) in
@@ -171,16 +170,16 @@ module _ (ring : Layout) (h : History) (k : IsHistory ring h) where
       let vb = k.elections b in_b in
       let in_book : Agree (length e.base) e.base (h.book b.term) = subst (λ (t : ℕ). Agree (length e.base) e.base (h.book t)) (sym is) (base_in_book e in_e (omega arith)) in
       let longer : length b.base < length e.base = elim (cases_lt (length b.base) (length e.base)) [
-            inl lt ↦ lt
-          | inr ge ↦
-              let t1 : term_at (h.book b.term) (length e.base) ≡ last_term e.base = sym (agree_term (length e.base) (length e.base) e.base (h.book b.term) (omega arith) in_book) in
-              let t2 : term_at b.base (length e.base) ≡ term_at (h.book b.term) (length e.base) = agree_term (length e.base) (length b.base) b.base (h.book b.term) ge vb.in_book in
-              let t3 = vb.base.rises (length e.base) (length b.base) ge (omega arith) in
-              absurd (omega (arith, vb.base_below))
-          ] in
+        | inl lt ↦ lt
+        | inr ge ↦
+            let t1 : term_at (h.book b.term) (length e.base) ≡ last_term e.base = sym (agree_term (length e.base) (length e.base) e.base (h.book b.term) (omega arith) in_book) in
+            let t2 : term_at b.base (length e.base) ≡ term_at (h.book b.term) (length e.base) = agree_term (length e.base) (length b.base) b.base (h.book b.term) ge vb.in_book in
+            let t3 = vb.base.rises (length e.base) (length b.base) ge (omega arith) in
+            absurd (omega (arith, vb.base_below))
+      ] in
       agree_trans p (h.book s) (h.book b.term) e.base
-          (agree_trans p (h.book s) b.base (h.book b.term) a (agree_less p (length b.base) b.base (h.book b.term) (omega (arith, a.right)) vb.in_book))
-          (agree_sym p e.base (h.book b.term) (agree_less p (length e.base) e.base (h.book b.term) (omega (arith, a.right)) in_book))
+      (agree_trans p (h.book s) b.base (h.book b.term) a (agree_less p (length b.base) b.base (h.book b.term) (omega (arith, a.right)) vb.in_book))
+      (agree_sym p e.base (h.book b.term) (agree_less p (length e.base) e.base (h.book b.term) (omega (arith, a.right)) in_book))
 
   held_above : (n s p : ℕ) (e : Election) → Held n s p → Contains h.elections e → s < last_term e.base → e.term < suc n
       → TermRegion ring h (last_term e.base) (base_region_of ring e) → Agree p (h.book s) e.base
@@ -200,10 +199,10 @@ module _ (ring : Layout) (h : History) (k : IsHistory ring h) where
       agree_sym p e.base (h.book s) (agree_less p (length e.base) e.base (h.book s) (omega arith) in_book)
   held_voted n s p e c m ih in_e later under low g in_g by ct asked (Overruled u o x y) =
       elim (cases_lt u.term e.term) [
-        inl less ↦ absurd (o.lacks (ih u o.led o.later (omega arith)))
-      | inr ge ↦
-          let same : e ≡ u = k.one_leader e u in_e o.led (omega arith) in
-          absurd (y (omega arith) g (subst (λ (w : Election). Contains w.grants g) same in_g) by)
+        | inl less ↦ absurd (o.lacks (ih u o.led o.later (omega arith)))
+        | inr ge ↦
+            let same : e ≡ u = k.one_leader e u in_e o.led (omega arith) in
+            absurd (y (omega arith) g (subst (λ (w : Election). Contains w.grants g) same in_g) by)
       ]
 
   held_below : (n s p : ℕ) → IsCommitted ring h s p → Held n s p
@@ -212,15 +211,15 @@ module _ (ring : Layout) (h : History) (k : IsHistory ring h) where
       let ih = held_below n s p m in
       let ve = is_election e in_e in
       elim (cases_lt s (last_term e.base)) [
-        inl lt ↦ held_above n s p e ih in_e lt under (base_region e ve)
-      | inr ge ↦
-          let cover = leaders_covered e m.election ve m.led (omega (arith, m.of_term)) (omega (arith, m.of_term)) in
-          let v = commit_meets_cover ring (region_of ring m.election.node) m.quorum (voters_in e.grants) m.reached cover.1 in
-          let g = in_granted e.grants v.0 v.3 in
-          let c = ve.grants g.0 g.1 in
-          let by : c.cast.voter ≡ v.0 = c.by ∙ g.2 in
-          held_voted n s p e c.cast m ih in_e later under ge g.0 g.1 (sym c.by) c.of_term c.asked
-              ((k.casts c.cast c.was_cast).keeps s p (subst (λ (w : ℕ). HasAcked h w s p) (sym by) (m.acked v.0 v.2)) (omega (arith, c.of_term)) m.own)
+        | inl lt ↦ held_above n s p e ih in_e lt under (base_region e ve)
+        | inr ge ↦
+            let cover = leaders_covered e m.election ve m.led (omega (arith, m.of_term)) (omega (arith, m.of_term)) in
+            let v = commit_meets_cover ring (region_of ring m.election.node) m.quorum (voters_in e.grants) m.reached cover.1 in
+            let g = in_granted e.grants v.0 v.3 in
+            let c = ve.grants g.0 g.1 in
+            let by : c.cast.voter ≡ v.0 = c.by ∙ g.2 in
+            held_voted n s p e c.cast m ih in_e later under ge g.0 g.1 (sym c.by) c.of_term c.asked
+            ((k.casts c.cast c.was_cast).keeps s p (subst (λ (w : ℕ). HasAcked h w s p) (sym by) (m.acked v.0 v.2)) (omega (arith, c.of_term)) m.own)
       ]
 
   -- leader completeness: each later leader's log began with what is committed
@@ -230,11 +229,11 @@ module _ (ring : Layout) (h : History) (k : IsHistory ring h) where
   -- what is committed in term s stands in the book of each term from s on that has a leader
   pub committed_in_book : (s p t : ℕ) (e : Election) → IsCommitted ring h s p → Contains h.elections e → e.term ≡ t → s ≤ t → Agree p (h.book s) (h.book t)
   committed_in_book s p t e m in_e is le = elim (cases_lt s t) [
-      inl lt ↦
+    | inl lt ↦
         let a = committed_held s p e m in_e (omega arith) in
         let b = (k.elections e in_e).in_book in
         subst (λ (u : ℕ). Agree p (h.book s) (h.book u)) is (agree_trans p (h.book s) e.base (h.book e.term) a (agree_less p (length e.base) e.base (h.book e.term) a.right b))
     | inr ge ↦
         let same : s ≡ t = omega arith in
         subst (λ (u : ℕ). Agree p (h.book s) (h.book u)) same (record { left = m.inside; right = m.inside; same = refl })
-    ]
+  ]

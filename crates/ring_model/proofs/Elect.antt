@@ -1,5 +1,5 @@
 -- Standing for election: a new term, the node's vote for itself, its requests, and, where its grants win, its first entry as leader; the same for a candidate with one more grant.
-use Rattle.std.proofs.Common.{◌≡◌, ℕ, ◌+◌, ◌-◌, ◌<◌, ◌≤◌, ◌==◌, ◌⊎◌, ◌&&◌, ◌||◌, [], ◌∷◌, ◌++◌, ◌∙◌, if◌then◌else◌, Bool, List, ap, arith, false, inl, inr, length, length-append, not, refl, subst, suc, sym, true}
+use Rattle.std.proofs.Common.{◌≡◌, ℕ, ◌≤◌, ◌==◌, ◌&&◌, [], ◌∷◌, ◌++◌, ◌∙◌, if◌then◌else◌, Bool, List, ap, arith, false, inl, inr, length, length-append, not, refl, subst, suc, sym, true}
 use Rattle.std.proofs.lemmas.List.Elements.{Contains-push}
 use Rattle.std.proofs.lemmas.Bool.Decides.{nat_tests}
 use Rattle.std.specs.List.{Contains}
@@ -23,7 +23,6 @@ use Rattle.ring_model.specs.Steps.{demoted, idle, message, own_entry, stepped, u
 use Rattle.ring_model.specs.Elections.{elect, first_peers, floor_of, has_won, lead, lead_or_ask, leading, may_elect, new_vote, own_grant, requests, stand, stand_actions}
 use Rattle.ring_model.specs.Nodes.{is_leader}
 use Rattle.ring_model.specs.Transfers.{on_timeout}
-use Rattle.ring_model.specs.Dispatch.{step}
 use Rattle.ring_model.specs.declared.effects.Action.TheVariants as action
 use Rattle.ring_model.specs.declared.messages.Body.TheVariants as body
 use Rattle.ring_types.specs.declared.entries.Payload.TheVariants as payload
@@ -58,9 +57,9 @@ first_next id n (m ∷ members) x c = go (m.id == id) refl c (first_next id n me
 
 pub seal_longer : (ring : Layout) (id : ℕ) (h g : History) (u c : ℕ) (l r : List Entry) → Grows id h g → IsSealed ring h u c l → IsSealed ring g u c (l ++ r)
 seal_longer ring id h g u c l r x s = elim (grow_sealed ring id h g x u u c l (omega arith) s) [
-    Nothing_yet z ↦ Nothing_yet z
+  | Nothing_yet z ↦ Nothing_yet z
   | Sealed_at q p a b m y ↦ Sealed_at q p a b m (agree_trans c (l ++ r) l (g.book q) (agree_sym c l (l ++ r) (agree_more c l r y.left)) y)
-  ]
+]
 
 -- a candidate whose grants win leads, after the actions that come first
 lead_row : (ring : Layout) (h m : History) (id : ℕ) (d : Durable) (o s : Soft) (first : List Action) (says : List Say) (grants : List Grant) (p : Path ring id h d first m) → IsBefore ring id h m d first p → is_leader o.role ≡ false
@@ -77,21 +76,21 @@ lead_row ring h m id d o s first says grants p before was k n x won sealed le =
     let j = done_join d first (action.Append (noop ∷ []) ∷ []) in
     let t : Soft = leading ring id (suc (length e.log)) s grants in
     let new : IsLeader led id (done e (action.Append (noop ∷ []))) t = record {
-          election = el;
-          led = Contains-push m.elections el;
-          by = refl;
-          of_term = refl;
-          matched = λ y in_y some. absurd (omega (arith, first_matched id (suc (length e.log)) ring.members y in_y));
-          next = λ y in_y. (omega (arith, first_matched id (suc (length e.log)) ring.members y in_y, first_next id (suc (length e.log)) ring.members y in_y), omega (arith, first_next id (suc (length e.log)) ring.members y in_y, length-append e.log (noop ∷ [])));
-        } in
+      election = el;
+      led = Contains-push m.elections el;
+      by = refl;
+      of_term = refl;
+      matched = λ y in_y some. absurd (omega (arith, first_matched id (suc (length e.log)) ring.members y in_y));
+      next = λ y in_y. (omega (arith, first_matched id (suc (length e.log)) ring.members y in_y, first_next id (suc (length e.log)) ring.members y in_y), omega (arith, first_next id (suc (length e.log)) ring.members y in_y, length-append e.log (noop ∷ [])));
+    } in
     advance_row ring h led id d o t (first ++ (action.Append (noop ∷ []) ∷ [])) says (path_join ring id h m led d first (action.Append (noop ∷ []) ∷ []) p (Goes_on (Leads el noop refl may refl) Ends))
-      after.history
-      (subst (λ (w : Durable). IsNode ring led id w) (sym j) after.node)
-      refl
-      (subst (λ (w : Durable). IsLeader led id w t) (sym j) new)
-      (subst (λ (w : Durable). IsSealed ring led w.term s.commit w.log) (sym j) (seal_longer ring id m led e.term s.commit e.log (noop ∷ []) after.grows sealed))
-      (subst (λ (w : Durable). w.applied ≤ s.commit) (sym j) le)
-      (Led_new was (before_join ring id h m led d first (action.Append (noop ∷ []) ∷ []) grants p (Goes_on (Leads el noop refl may refl) Ends) before (refl, refl)))
+    after.history
+    (subst (λ (w : Durable). IsNode ring led id w) (sym j) after.node)
+    refl
+    (subst (λ (w : Durable). IsLeader led id w t) (sym j) new)
+    (subst (λ (w : Durable). IsSealed ring led w.term s.commit w.log) (sym j) (seal_longer ring id m led e.term s.commit e.log (noop ∷ []) after.grows sealed))
+    (subst (λ (w : Durable). w.applied ≤ s.commit) (sym j) le)
+    (Led_new was (before_join ring id h m led d first (action.Append (noop ∷ []) ∷ []) grants p (Goes_on (Leads el noop refl may refl) Ends) before (refl, refl)))
 
 -- a candidate with these grants: it leads, or asks
 pub ask_row : (ring : Layout) (h m g : History) (id : ℕ) (d : Durable) (o s : Soft) (first : List Action) (says : List Say) (grants : List Grant) (asks : List Message) (p : Path ring id h d first m) → IsBefore ring id h m d first p
@@ -120,8 +119,8 @@ requests_sent : (ring : Layout) (h : History) (id t : ℕ) (q : Opid) (d : Durab
     → Asked ring h id d grants c (requests id t q members)
 requests_sent ring h id t q d grants c [] is_t is_q x s = record { sent = h; sends = Sent_all; candidate = x; sealed = s }
 requests_sent ring h id t q d grants c (m ∷ members) is_t is_q x s = go (m.id == id) refl (is_voter m.kind) refl (requests_sent ring h id t q d grants c members is_t is_q x s)
-      (requests_sent ring (with_message h (request_to id m.id t q)) id t q d grants c members is_t is_q
-        (candidate_sent h (request_to id m.id t q) id d grants x) (sealed_sent ring h (request_to id m.id t q) d.term c d.log s))
+    (requests_sent ring (with_message h (request_to id m.id t q)) id t q d grants c members is_t is_q
+    (candidate_sent h (request_to id m.id t q) id d grants x) (sealed_sent ring h (request_to id m.id t q) d.term c d.log s))
   where
     go : (a : Bool) → (m.id == id) ≡ a → (b : Bool) → is_voter m.kind ≡ b → Asked ring h id d grants c (requests id t q members) → Asked ring (with_message h (request_to id m.id t q)) id d grants c (requests id t q members)
         → Asked ring h id d grants c (requests id t q (m ∷ members))
@@ -142,16 +141,16 @@ stand_row ring h id d s was k n r =
     let c : Cast = record { voter = id; vote = vote; asked = last d.log } in
     let first = stand_actions ring id d s in
     let may : MayVote ring h id (done d (action.SetTerm t)) c (floor_of d s) = record {
-          by = refl;
-          of_term = refl;
-          first = λ w in_w is. (let y = n.votes_cast w in_w in let z = n.cast_below y.0 y.1 y.2 in let q = ap (λ (v : Vote). v.term) y.3 in omega arith);
-          of_region = refl;
-          self = inl refl;
-          asked = Longer refl (omega arith);
-          floor_at = s.commit;
-          floor_sealed = seal_raise ring h d.term t s.commit d.log (omega arith) r.sealed;
-          floor_below = omega arith;
-        } in
+      by = refl;
+      of_term = refl;
+      first = λ w in_w is. (let y = n.votes_cast w in_w in let z = n.cast_below y.0 y.1 y.2 in let q = ap (λ (v : Vote). v.term) y.3 in omega arith);
+      of_region = refl;
+      self = inl refl;
+      asked = Longer refl (omega arith);
+      floor_at = s.commit;
+      floor_sealed = seal_raise ring h d.term t s.commit d.log (omega arith) r.sealed;
+      floor_below = omega arith;
+    } in
     let m : History = with_cast h c in
     let p : Path ring id h d first m = Goes_on (Raises t refl (omega arith) refl) (Goes_on (Votes c (floor_of d s) refl may refl) Ends) in
     let a = path_keeps ring id h m d first k n p in
@@ -159,18 +158,18 @@ stand_row ring h id d s was k n r =
     let own : Grant = own_grant id e in
     let in_c : Contains m.casts c = Contains-push h.casts c in
     let x : IsCandidate m id e (own ∷ []) = record {
-          self = (c, in_c, refl, refl, refl, refl);
-          below = omega (arith, n.log.below);
-          not_led = λ f in_f by is. (let z = n.led_below f in_f by in omega arith);
-          grants = λ g in_g. elim (cons_cases own [] g in_g) [
-              inl here ↦ subst (IsGrant m id t (last d.log)) here (reports_all ring m id e a.history a.node c id (last d.log) in_c refl refl refl refl)
-            | inr there ↦ absurd (omega (arith, there.1))
-            ];
-        } in
+      self = (c, in_c, refl, refl, refl, refl);
+      below = omega (arith, n.log.below);
+      not_led = λ f in_f by is. (let z = n.led_below f in_f by in omega arith);
+      grants = λ g in_g. elim (cons_cases own [] g in_g) [
+        | inl here ↦ subst (IsGrant m id t (last d.log)) here (reports_all ring m id e a.history a.node c id (last d.log) in_c refl refl refl refl)
+        | inr there ↦ absurd (omega (arith, there.1))
+      ];
+    } in
     let sealed : IsSealed ring m t s.commit d.log = grow_sealed ring id h m a.grows d.term t s.commit d.log (omega arith) r.sealed in
     let z = requests_sent ring m id t (last d.log) e (own ∷ []) s.commit ring.members refl refl x sealed in
     ask_row ring h m z.sent id d s (demoted s) first (unknowns s) (own ∷ []) (requests id t (last d.log) ring.members) (Goes_on (Raises t refl (omega arith) refl) (Goes_on (Votes c (floor_of d s) refl may refl) Ends)) tt
-      was a.history a.node x z.sends z.candidate sealed z.sealed r.applied
+    was a.history a.node x z.sends z.candidate sealed z.sealed r.applied
 
 leader_stands_not : (ring : Layout) (id : ℕ) (d : Durable) (s : Soft) → may_elect ring id d s ≡ true → is_leader s.role ≡ false
 leader_stands_not ring id d s may = grind (arith, nat_tests)

@@ -1,5 +1,5 @@
 -- Each event keeps the invariant: it makes at most one node act, whose step owes nothing, or it moves a cursor alone; and it holds just the elections that the definition finds.
-use Rattle.std.proofs.Common.{◌≡◌, ℕ, ◌+◌, ◌-◌, ◌<◌, ◌≤◌, ◌==◌, ◌⊎◌, ◌&&◌, ◌||◌, [], ◌∷◌, ◌++◌, ◌∙◌, if◌then◌else◌, Bool, List, None, Option, Some, ap, append_assoc, arith, false, length, refl, subst, suc, sym, take, true, zero}
+use Rattle.std.proofs.Common.{◌≡◌, ℕ, ◌≤◌, [], ◌∷◌, ◌++◌, ◌∙◌, if◌then◌else◌, Bool, List, None, Option, Some, ap, append_assoc, arith, false, length, refl, subst, suc, sym, take, true, zero}
 use Rattle.std.proofs.lemmas.List.{append-nil}
 use Rattle.std.specs.List.{Contains}
 use Rattle.ring_types.specs.declared.entries.Entry.{Entry}
@@ -23,7 +23,6 @@ use Rattle.ring_model.proofs.Lists.{none_contained}
 use Rattle.ring_model.proofs.Invariant.{As_leader, By_reply, HasAcked, History, IsNode, IsRunning, IsSealed, Nothing_yet}
 use Rattle.ring_model.proofs.Growth.{agree_less, agree_trans, grow_sealed}
 use Rattle.ring_model.proofs.Following.{agree_same}
-use Rattle.ring_model.proofs.Leading.{led_log}
 use Rattle.ring_model.proofs.Paths.{SameLog}
 use Rattle.ring_model.proofs.Turns.{IsWorld, TurnedTo, cut_keeps, down_keeps, restart_keeps, whole_keeps}
 use Rattle.ring_model.proofs.Dispatch.{IsGiven, step_row, step_whole}
@@ -39,7 +38,10 @@ pub record Carried (ring : Layout) (w v : WorldState) (h : History) (held : List
 
 by_turn : (ring : Layout) (w v : WorldState) (h : History) (id : ℕ) (held : List Election) → TurnedTo ring w v h id held → Carried ring w v h held
 by_turn ring w v h id held x = record {
-  after = x.after; world = x.world; chosen = x.chosen; led = x.grows.elections;
+  after = x.after;
+  world = x.world;
+  chosen = x.chosen;
+  led = x.grows.elections;
   sealed = λ u c l y. grow_sealed ring id h x.after x.grows u u c l (omega arith) y;
   elections = x.elections;
 }
@@ -92,12 +94,12 @@ handled_over : (ring : Layout) (w : WorldState) (h : History) (id : ℕ) (i : In
 handled_over ring w h id i completion None up k given = passed_over ring w h k
 handled_over ring w h id i Whole (Some s) up k given =
     by_turn ring w (ended w id (w.nodes id).durable (step ring id (w.nodes id).durable s i) Whole) h id (held_by id (w.nodes id).durable s (step ring id (w.nodes id).durable s i) Whole)
-      (whole_keeps ring w h id s (step ring id (w.nodes id).durable s i) k
-        (step_row ring h id (w.nodes id).durable s i k.history (k.nodes id) (k.running id s up) (subst (λ (ms : List Message). IsGiven ms id i) (sym k.messages) given)))
+    (whole_keeps ring w h id s (step ring id (w.nodes id).durable s i) k
+    (step_row ring h id (w.nodes id).durable s i k.history (k.nodes id) (k.running id s up) (subst (λ (ms : List Message). IsGiven ms id i) (sym k.messages) given)))
 handled_over ring w h id i (Cut count) (Some s) up k given =
     by_turn ring w (ended w id (w.nodes id).durable (step ring id (w.nodes id).durable s i) (Cut count)) h id (held_by id (w.nodes id).durable s (step ring id (w.nodes id).durable s i) (Cut count))
-      (cut_keeps ring w h id count s (step ring id (w.nodes id).durable s i) k
-        (step_row ring h id (w.nodes id).durable s i k.history (k.nodes id) (k.running id s up) (subst (λ (ms : List Message). IsGiven ms id i) (sym k.messages) given)))
+    (cut_keeps ring w h id count s (step ring id (w.nodes id).durable s i) k
+    (step_row ring h id (w.nodes id).durable s i k.history (k.nodes id) (k.running id s up) (subst (λ (ms : List Message). IsGiven ms id i) (sym k.messages) given)))
 
 -- a message that a task gives was sent, and to this node
 abbrev pub MayTake : List Message → ℕ → Task → Type 0
@@ -118,14 +120,14 @@ turn_over : (ring : Layout) (w : WorldState) (h : History) (id : ℕ) (task : Ta
 turn_over ring w h id (Handle i) completion k given = handled_over ring w h id i completion (w.nodes id).soft refl k given
 turn_over ring w h id GoDown completion k given =
     subst (λ (e : List Election). Carried ring w (turn ring w id GoDown completion) h e) (sym (down_holds_none ring id (w.nodes id).durable (w.nodes id).soft completion))
-      (by_turn ring w (turn ring w id GoDown completion) h id [] (down_keeps ring w h id (w.nodes id).durable [] (record { term = refl; votes = refl; log = refl; applied = refl }) k))
+    (by_turn ring w (turn ring w id GoDown completion) h id [] (down_keeps ring w h id (w.nodes id).durable [] (record { term = refl; votes = refl; log = refl; applied = refl }) k))
 turn_over ring w h id ComeUp Whole k given =
     subst (λ (e : List Election). Carried ring w (turn ring w id ComeUp Whole) h e) (sym (up_holds_none ring id (w.nodes id).durable (w.nodes id).soft Whole))
-      (by_turn ring w (turn ring w id ComeUp Whole) h id [] (restart_keeps ring w h id k))
+    (by_turn ring w (turn ring w id ComeUp Whole) h id [] (restart_keeps ring w h id k))
 turn_over ring w h id ComeUp (Cut count) k given =
     subst (λ (e : List Election). Carried ring w (turn ring w id ComeUp (Cut count)) h e) (sym (up_holds_none ring id (w.nodes id).durable (w.nodes id).soft (Cut count)))
-      (by_turn ring w (turn ring w id ComeUp (Cut count)) h id []
-        (down_keeps ring w h id (all_done (w.nodes id).durable (take count (restart_actions (w.nodes id).durable))) (count ∷ []) (restart_cut (w.nodes id).durable count) k))
+    (by_turn ring w (turn ring w id ComeUp (Cut count)) h id []
+    (down_keeps ring w h id (all_done (w.nodes id).durable (take count (restart_actions (w.nodes id).durable))) (count ∷ []) (restart_cut (w.nodes id).durable count) k))
 
 -- only members act
 member_over : (ring : Layout) (w : WorldState) (h : History) (id : ℕ) (task : Task) (completion : Completion) → IsWorld ring w h → MayTake w.messages id task
@@ -161,8 +163,8 @@ next_over : (ring : Layout) (w : WorldState) (h : History) (id : ℕ) (completio
 next_over ring w h id completion None k = passed_over ring w h k
 next_over ring w h id completion (Some number) k =
     from_moved ring w (next_given ring w id completion (Some number)) h id number (acted_elections ring w completion (acts_on_number w (Some number)))
-      (subst (λ (e : List Election). Carried ring (moved w id number) (next_given ring w id completion (Some number)) h e) (acts_same ring w id number completion (acts_on (message_at w.messages number)))
-        (given_over ring (moved w id number) h completion number (message_at w.messages number) refl (same_world ring w (moved w id number) h refl refl refl k)))
+    (subst (λ (e : List Election). Carried ring (moved w id number) (next_given ring w id completion (Some number)) h e) (acts_same ring w id number completion (acts_on (message_at w.messages number)))
+    (given_over ring (moved w id number) h completion number (message_at w.messages number) refl (same_world ring w (moved w id number) h refl refl refl k)))
 
 skipped_over : (ring : Layout) (w : WorldState) (h : History) (id : ℕ) (o : Option ℕ) → IsWorld ring w h → Carried ring w (skipped w id o) h []
 skipped_over ring w h id None k = passed_over ring w h k

@@ -1,5 +1,5 @@
 -- A follower that takes a stretch of its leader's book into its log loses only what differs from the book, which nothing committed does.
-use Rattle.std.proofs.Common.{◌≡◌, ℕ, ◌+◌, ◌-◌, ◌<◌, ◌≤◌, ◌==◌, ◌⊎◌, ◌&&◌, ◌||◌, [], ◌∷◌, ◌++◌, ◌∙◌, if◌then◌else◌, Bool, List, ap, arith, drop, false, inl, inr, length, length-append, refl, subst, suc, sym, take, take-add, true, zero}
+use Rattle.std.proofs.Common.{◌≡◌, ℕ, ◌+◌, ◌<◌, ◌≤◌, ◌==◌, ◌⊎◌, [], ◌∷◌, ◌++◌, ◌∙◌, Bool, List, ap, arith, drop, false, inl, inr, length, length-append, refl, subst, suc, sym, take, take-add, true, zero}
 use Rattle.std.proofs.lemmas.Bool.{cases_lt}
 use Rattle.std.proofs.lemmas.List.{length-take-le, take-append-le, take-take}
 use Rattle.std.proofs.lemmas.Bool.Decides.{nat_tests}
@@ -82,9 +82,9 @@ IsFollowed l m b = (j : ℕ) → j ≤ length l → Agree j l m ⊎ (Agree j l b
 
 pub cut_followed : (l b es rest : List Entry) (q : ℕ) → (m : Merge l b q es rest) → 0 < length rest → IsFollowed l (take m.kept l) b
 cut_followed l b es rest q m some j le = elim (cases_lt m.kept j) [
-    inl lt ↦ inr (λ a. m.conflict some (omega arith) (agree_term (suc m.kept) j l b (omega arith) a))
+  | inl lt ↦ inr (λ a. m.conflict some (omega arith) (agree_term (suc m.kept) j l b (omega arith) a))
   | inr ge ↦ inl (agree_take j m.kept l ge m.agree.left)
-  ]
+]
 
 pub more_followed : (l r b : List Entry) → IsFollowed l (l ++ r) b
 more_followed l r b j le = inl (agree_more j l r le)
@@ -118,30 +118,29 @@ log_take ring h t m l le x =
     let n : length (take m l) ≡ m = length-take-le m l le in
     record {
       entry = λ k some high.
-        let y = x.entry k some (omega arith) in
-        let same = term_at_take k m l (omega arith) in
-        record {
-          election = y.election;
-          led = y.led;
-          of_term = y.of_term ∙ sym same;
-          of_region = region_at_take ring.home k m l (omega arith) ∙ y.of_region;
-          in_book = subst (λ (w : ℕ). Agree k (take m l) (h.book w)) (sym same) (agree_trans k (take m l) l (h.book (term_at l k)) (agree_sym k l (take m l) (agree_take k m l (omega arith) le)) y.in_book);
-          place = λ e is. y.place e (sym (entry_at_take k m l (omega arith)) ∙ is);
-        };
+          let y = x.entry k some (omega arith) in
+          let same = term_at_take k m l (omega arith) in
+          record {
+            election = y.election;
+            led = y.led;
+            of_term = y.of_term ∙ sym same;
+            of_region = region_at_take ring.home k m l (omega arith) ∙ y.of_region;
+            in_book = subst (λ (w : ℕ). Agree k (take m l) (h.book w)) (sym same) (agree_trans k (take m l) l (h.book (term_at l k)) (agree_sym k l (take m l) (agree_take k m l (omega arith) le)) y.in_book);
+            place = λ e is. y.place e (sym (entry_at_take k m l (omega arith)) ∙ is);
+          };
       rises = λ j k a b. omega (arith, x.rises j k a (omega arith), term_at_take j m l (omega arith), term_at_take k m l (omega arith));
       below = omega (arith, x.below, x.rises m (length l) le (omega arith), term_at_take (length (take m l)) m l (omega arith), ap (term_at l) n);
     }
 
 module _ (ring : Layout) (h : History) (id : ℕ) (d : Durable) (m : List Entry) (k : IsHistory ring h) (n : IsNode ring h id d) (e : Election) (led : Contains h.elections e) (is : e.term ≡ d.term)
     (not_mine : e.node ≡ id → ⊥) (follows : IsFollowed d.log m (h.book d.term)) (log : IsBookedLog ring h d.term m) where
-
   pub seal_follows : (c : ℕ) → IsSealed ring h d.term c d.log → IsSealed ring h d.term c m
   seal_follows c (Nothing_yet z) = Nothing_yet z
   seal_follows c (Sealed_at s p a b x y) =
       let in_book = committed_in_book ring h k s p d.term e x led is a in
       elim (follows c y.left) [
-        inl kept ↦ Sealed_at s p a b x (agree_trans c m d.log (h.book s) (agree_sym c d.log m kept) y)
-      | inr lost ↦ absurd (lost (agree_trans c d.log (h.book s) (h.book d.term) y (agree_less c p (h.book s) (h.book d.term) b in_book)))
+        | inl kept ↦ Sealed_at s p a b x (agree_trans c m d.log (h.book s) (agree_sym c d.log m kept) y)
+        | inr lost ↦ absurd (lost (agree_trans c d.log (h.book s) (h.book d.term) y (agree_less c p (h.book s) (h.book d.term) b in_book)))
       ]
 
   seal_term : (c : ℕ) → IsSealed ring h d.term c d.log → term_at d.log c ≡ term_at m c
@@ -149,28 +148,28 @@ module _ (ring : Layout) (h : History) (id : ℕ) (d : Durable) (m : List Entry)
   seal_term c (Sealed_at s p a b x y) =
       let in_book = committed_in_book ring h k s p d.term e x led is a in
       elim (follows c y.left) [
-        inl kept ↦ agree_term c c d.log m (omega arith) kept
-      | inr lost ↦ absurd (lost (agree_trans c d.log (h.book s) (h.book d.term) y (agree_less c p (h.book s) (h.book d.term) b in_book)))
+        | inl kept ↦ agree_term c c d.log m (omega arith) kept
+        | inr lost ↦ absurd (lost (agree_trans c d.log (h.book s) (h.book d.term) y (agree_less c p (h.book s) (h.book d.term) b in_book)))
       ]
 
   acked_follows : (s p : ℕ) → HasAcked h id s p → KeepsAcked h d s p → KeepsAcked h (record d { log = m }) s p
   acked_follows s p a (Cut_by u x le) = Cut_by u x le
   acked_follows s p a (Kept x) = elim (follows p x.right) [
-      inl kept ↦ Kept (agree_trans p (h.book s) d.log m x kept)
+    | inl kept ↦ Kept (agree_trans p (h.book s) d.log m x kept)
     | inr lost ↦
         let le = n.acked_below s p a in
         elim (cases_lt s d.term) [
-          inl lt ↦ Cut_by e (record {
+          | inl lt ↦ Cut_by e (record {
             led = led;
             later = omega arith;
             lacks = λ y. lost (agree_trans p d.log e.base (h.book d.term) (agree_trans p d.log (h.book s) e.base (agree_sym p (h.book s) d.log x) y)
-              (agree_less p (length e.base) e.base (h.book d.term) y.right (subst (λ (t : ℕ). Agree (length e.base) e.base (h.book t)) is (k.elections e led).in_book)));
+                (agree_less p (length e.base) e.base (h.book d.term) y.right (subst (λ (t : ℕ). Agree (length e.base) e.base (h.book t)) is (k.elections e led).in_book)));
           }) (omega arith)
-        | inr ge ↦
-            let same : s ≡ d.term = omega arith in
-            absurd (lost (agree_sym p (h.book d.term) d.log (subst (λ (t : ℕ). Agree p (h.book t) d.log) same x)))
+          | inr ge ↦
+              let same : s ≡ d.term = omega arith in
+              absurd (lost (agree_sym p (h.book d.term) d.log (subst (λ (t : ℕ). Agree p (h.book t) d.log) same x)))
         ]
-    ]
+  ]
 
   pub follow_keeps : IsNode ring h id (record d { log = m })
   follow_keeps = record {
@@ -181,9 +180,9 @@ module _ (ring : Layout) (h : History) (id : ℕ) (d : Durable) (m : List Entry)
     cast_kept = n.cast_kept;
     votes_cast = n.votes_cast;
     dropped = λ c in_c by. elim (n.dropped c in_c by) [
-        inl kept ↦ inl kept
+      | inl kept ↦ inl kept
       | inr gone ↦ inr (record { at = gone.at; sealed = seal_follows gone.at gone.sealed; above = omega (arith, gone.above, seal_term gone.at gone.sealed) })
-      ];
+    ];
     between = n.between;
     acked_below = n.acked_below;
     acked = λ s p a. acked_follows s p a (n.acked s p a);

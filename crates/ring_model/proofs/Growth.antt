@@ -1,5 +1,5 @@
 -- A history that grows by what one node does keeps what was known of it, since its lists are only added to and its books only go on.
-use Rattle.std.proofs.Common.{◌≡◌, ℕ, ◌+◌, ◌-◌, ◌<◌, ◌≤◌, ◌==◌, ◌⊎◌, ◌&&◌, ◌||◌, [], ◌∷◌, ◌++◌, ◌∙◌, if◌then◌else◌, List, ap, arith, drop, inl, inr, length, refl, subst, suc, sym, take, zero}
+use Rattle.std.proofs.Common.{◌≡◌, ℕ, ◌+◌, ◌<◌, ◌≤◌, ◌⊎◌, [], ◌∷◌, ◌∙◌, List, ap, arith, drop, inl, inr, length, refl, subst, suc, sym, take, zero}
 use Rattle.std.proofs.lemmas.Bool.{cases_lt}
 use Rattle.std.proofs.lemmas.List.{take-take}
 use Rattle.std.specs.List.{Contains}
@@ -68,7 +68,6 @@ pub record Grows (id : ℕ) (h g : History) : Type 0 where
   pub new_acks : (v s p : ℕ) → HasAcked g v s p → HasAcked h v s p ⊎ ((v ≡ id) × ((c : Cast) → Contains h.casts c → c.voter ≡ id → c.vote.term ≤ s))
 
 module _ (ring : Layout) (id : ℕ) (h g : History) (grows : Grows id h g) where
-
   pub grow_book : (e : Election) (s p : ℕ) (l : List Entry) → Contains h.elections e → e.term ≡ s → Agree p l (h.book s) → Agree p l (g.book s)
   grow_book e s p l in_e is a =
       let b : Agree (length (h.book s)) (h.book s) (g.book s) = subst (λ (t : ℕ). Agree (length (h.book t)) (h.book t) (g.book t)) is (grows.books e in_e) in
@@ -144,9 +143,9 @@ module _ (ring : Layout) (id : ℕ) (h g : History) (grows : Grows id h g) where
     for = y.for;
     asked = y.asked;
     report = λ c in_c by low high. elim (grows.new_casts c in_c) [
-        inl old ↦ y.report c old by low high
+      | inl old ↦ y.report c old by low high
       | inr new ↦ absurd (let z = new.1 y.cast y.was_cast (y.by ∙ (sym by ∙ new.0)) in omega (arith, y.of_term))
-      ];
+    ];
   }
 
   -- a sealed beginning of a book stays one
@@ -163,23 +162,23 @@ module _ (ring : Layout) (id : ℕ) (h g : History) (grows : Grows id h g) where
     log = grow_log d.term d.term d.log (omega arith) n.log;
     led_below = λ e in_e by. elim (grows.new_elections e in_e) [ inl old ↦ n.led_below e old by | inr new ↦ absurd (other (sym by ∙ new)) ];
     led_log = λ e in_e by t. elim (grows.new_elections e in_e) [
-        inl old ↦ n.led_log e old by t ∙ grows.other_books e old (λ q. other (sym by ∙ q))
+      | inl old ↦ n.led_log e old by t ∙ grows.other_books e old (λ q. other (sym by ∙ q))
       | inr new ↦ absurd (other (sym by ∙ new))
-      ];
+    ];
     cast_below = λ c in_c by. elim (grows.new_casts c in_c) [ inl old ↦ n.cast_below c old by | inr new ↦ absurd (other (sym by ∙ new.0)) ];
     cast_kept = λ c in_c by t. elim (grows.new_casts c in_c) [ inl old ↦ n.cast_kept c old by t | inr new ↦ absurd (other (sym by ∙ new.0)) ];
     votes_cast = λ w in_w. let x = n.votes_cast w in_w in (x.0, grows.casts x.0 x.1, x.2, x.3);
     dropped = λ c in_c by. elim (grows.new_casts c in_c) [
-        inl old ↦ elim (n.dropped c old by) [
-            inl kept ↦ inl kept
-          | inr gone ↦ inr (record { at = gone.at; sealed = grow_sealed d.term d.term gone.at d.log (omega arith) gone.sealed; above = gone.above })
-          ]
+      | inl old ↦ elim (n.dropped c old by) [
+        | inl kept ↦ inl kept
+        | inr gone ↦ inr (record { at = gone.at; sealed = grow_sealed d.term d.term gone.at d.log (omega arith) gone.sealed; above = gone.above })
+      ]
       | inr new ↦ absurd (other (sym by ∙ new.0))
-      ];
+    ];
     between = λ c e in_c in_e by_c by_e t low high. elim (grows.new_casts c in_c) [
-        inl old ↦ elim (grows.new_casts e in_e) [ inl old_e ↦ n.between c e old old_e by_c by_e t low high | inr new ↦ absurd (other (sym by_e ∙ new.0)) ]
+      | inl old ↦ elim (grows.new_casts e in_e) [ inl old_e ↦ n.between c e old old_e by_c by_e t low high | inr new ↦ absurd (other (sym by_e ∙ new.0)) ]
       | inr new ↦ absurd (other (sym by_c ∙ new.0))
-      ];
+    ];
     acked_below = λ s p a. elim (grows.new_acks j s p a) [ inl old ↦ n.acked_below s p old | inr new ↦ absurd (other new.0) ];
     acked = λ s p a. elim (grows.new_acks j s p a) [ inl old ↦ grow_keeps k d j s p old (n.acked s p old) | inr new ↦ absurd (other new.0) ];
     applied = grow_sealed d.term d.term d.applied d.log (omega arith) n.applied;
@@ -230,9 +229,10 @@ module _ (ring : Layout) (id : ℕ) (h g : History) (grows : Grows id h g) where
       let a = grow_book y.1.0 answer.term answer.position (h.book answer.term) y.1.1 y.1.2 (record { left = y.0; right = y.0; same = refl }) in (a.right, (y.1.0, grows.elections y.1.0 y.1.1, y.1.2))
   sent_stays from to (body.ProxyAppend sent) x =
       let s = x.0 in
-      let a : Agree (length (h.book sent.term)) (h.book sent.term) (g.book sent.term) = grow_book s.election sent.term (length (h.book sent.term)) (h.book sent.term) s.led s.of_term (record { left = omega arith; right = omega arith; same = refl }) in
-      (stretch_stays sent.term from sent.prev sent.commit (length sent.opids) s,
-       ap opids_of (sym (agree_window sent.prev.position (length sent.opids) (length (h.book sent.term)) (h.book sent.term) (g.book sent.term) s.fits a)) ∙ x.1)
+      let a : Agree (length (h.book sent.term)) (h.book sent.term) (g.book sent.term) = grow_book s.election sent.term (length (h.book sent.term)) (h.book sent.term) s.led s.of_term (record { left = omega arith; right = omega arith; same = refl }) in (
+        stretch_stays sent.term from sent.prev sent.commit (length sent.opids) s,
+        ap opids_of (sym (agree_window sent.prev.position (length sent.opids) (length (h.book sent.term)) (h.book sent.term) (g.book sent.term) s.fits a)) ∙ x.1,
+      )
   sent_stays from to (body.MockStart sent) x = tt
   sent_stays from to (body.MockRequest sent) x = tt
   sent_stays from to (body.MockReply sent) x = tt
@@ -257,9 +257,9 @@ module _ (ring : Layout) (id : ℕ) (h g : History) (grows : Grows id h g) where
         in_book = grow_book e e.term (length e.base) e.base in_e refl x.in_book;
         longer = omega (arith, x.longer, a.right);
         own = λ k low high. elim (cases_lt (length (h.book e.term)) k) [
-            inl past ↦ more k past high
+          | inl past ↦ more k past high
           | inr old ↦ sym (agree_term k (length (h.book e.term)) (h.book e.term) (g.book e.term) old a) ∙ x.own k low old
-          ];
+        ];
         book = log;
       }
 
@@ -268,12 +268,12 @@ module _ (ring : Layout) (id : ℕ) (h g : History) (grows : Grows id h g) where
     of_region = x.of_region;
     self = let y = x.self in (y.0, grows.casts y.0 y.1, y.2, y.3, y.4);
     keeps = λ s p a below own. elim (grows.new_acks c.voter s p a) [
-        inl old ↦
+      | inl old ↦
           let i = acked_inside k c.voter s p old in
           let b = grow_book i.0 s p (h.book s) i.1 i.2 (record { left = i.3; right = i.3; same = refl }) in
           grow_vote_keeps k c c.voter s p old (x.keeps s p old below (agree_term p p (h.book s) (g.book s) (omega arith) b ∙ own))
       | inr new ↦ absurd (let z = new.1 c in_c new.0 in omega arith)
-      ];
+    ];
   }
 
   pub chosen_stays : (c : ℕ) (l : List Entry) → (u : ℕ) × IsSealed ring h u c l → (u : ℕ) × IsSealed ring g u c l

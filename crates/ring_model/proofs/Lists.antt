@@ -1,7 +1,7 @@
 -- Membership of lists: what a filter keeps and what a test of a list finds, by recursion on the list.
-use Rattle.std.proofs.Common.{◌≡◌, ℕ, zero, suc, ◌+◌, ◌<◌, ◌≤◌, ◌==◌, ◌⊎◌, inl, inr, Bool, true, false, ◌&&◌, List, [], ◌∷◌, ◌++◌, length, map, refl, ap, sym, ◌∙◌, arith}
+use Rattle.std.proofs.Common.{◌≡◌, ℕ, zero, suc, ◌<◌, ◌==◌, ◌⊎◌, inl, inr, Bool, true, false, ◌&&◌, List, [], ◌∷◌, map, refl, ap, sym, ◌∙◌, arith}
 use Rattle.std.proofs.lemmas.Bool.Decides.{nat_tests}
-use Rattle.std.specs.Prelude.{nat_lt, nat_le}
+use Rattle.std.specs.Prelude.{nat_lt}
 use Rattle.std.specs.List.{Contains, filter, list_any, list_all}
 use Rattle.ring_model.specs.Quorums.{is_listed}
 
@@ -21,13 +21,14 @@ in_cons y ys x c = (suc c.0, omega (arith, c.1), c.2)
 pub filter_keeps : {X : Type 0} (p : X → Bool) (xs : List X) (x : X) → Contains xs x → p x ≡ true → Contains (filter p xs) x
 filter_keeps p [] x c t = absurd (omega (arith, c.1))
 filter_keeps p (y ∷ ys) x c t = elim (cons_cases y ys x c) [
-    inl here ↦ keeps_here p y ys x here t (p y) refl
+  | inl here ↦ keeps_here p y ys x here t (p y) refl
   | inr there ↦ keeps_there p y ys x (filter_keeps p ys x there t) (p y) refl
-  ]
+]
   where
     keeps_here : {X : Type 0} (p : X → Bool) (y : X) (ys : List X) (x : X) → y ≡ x → p x ≡ true → (b : Bool) → p y ≡ b → Contains (filter p (y ∷ ys)) x
     keeps_here p y ys x here t true is = rw is (zero, omega arith, here)
     keeps_here p y ys x here t false is = absurd (let z : true ≡ false = sym t ∙ (ap p (sym here) ∙ is) in cc)
+
     keeps_there : {X : Type 0} (p : X → Bool) (y : X) (ys : List X) (x : X) → Contains (filter p ys) x → (b : Bool) → p y ≡ b → Contains (filter p (y ∷ ys)) x
     keeps_there p y ys x c true is = rw is (in_cons y (filter p ys) x c)
     keeps_there p y ys x c false is = rw is c
@@ -81,9 +82,9 @@ map_keeps f (y ∷ ys) x c = elim (cons_cases y ys x c) [ inl here ↦ (zero, om
 pub map_of : {X Y : Type 0} (f : X → Y) (xs : List X) (z : Y) → Contains (map f xs) z → (x : X) × Contains xs x × (f x ≡ z)
 map_of f [] z c = absurd (omega (arith, c.1))
 map_of f (y ∷ ys) z c = elim (cons_cases (f y) (map f ys) z c) [
-    inl here ↦ (y, (zero, omega arith, refl), here)
+  | inl here ↦ (y, (zero, omega arith, refl), here)
   | inr there ↦ let w = map_of f ys z there in (w.0, in_cons y ys w.0 w.1, w.2)
-  ]
+]
 
 pub listed_contains : (xs : List ℕ) (x : ℕ) → is_listed xs x ≡ true → Contains xs x
 listed_contains xs x t = let y = any_of (λ (w : ℕ). w == x) xs t in let z : y.0 ≡ x = grind (arith, nat_tests, y.2) in rw (← z) y.1

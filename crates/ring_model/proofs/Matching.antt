@@ -1,5 +1,5 @@
 -- What a follower makes of its leader's Append: it is never torn, and the cut and the added entries are guarded moves.
-use Rattle.std.proofs.Common.{◌≡◌, ℕ, ◌+◌, ◌-◌, ◌<◌, ◌≤◌, ◌==◌, ◌⊎◌, ◌&&◌, ◌||◌, [], ◌∷◌, ◌++◌, ◌∙◌, if◌then◌else◌, List, ap, arith, drop, length, refl, subst, suc, sym, take, zero}
+use Rattle.std.proofs.Common.{◌≡◌, ℕ, ◌+◌, ◌<◌, ◌≤◌, ◌++◌, ◌∙◌, List, ap, arith, drop, length, refl, subst, suc, sym, take, zero}
 use Rattle.std.proofs.lemmas.List.{take_all}
 use Rattle.ring_types.specs.declared.entries.Entry.{Entry}
 use Rattle.ring_types.specs.Rings.{Layout}
@@ -18,7 +18,6 @@ use Rattle.ring_model.proofs.Paths.{MayFollow}
 module _ (ring : Layout) (h : History) (id : ℕ) (d : Durable) (k : IsHistory ring h) (n : IsNode ring h id d)
     (leader : ℕ) (prev : Opid) (mc : ℕ) (es : List Entry) (s : IsStretch ring h d.term leader prev mc (length es)) (win : take (length es) (drop prev.position (h.book d.term)) ≡ es)
     (foreign : leader ≡ id → ⊥) where
-
   pub not_mine : s.election.node ≡ id → ⊥
   not_mine by = foreign (sym s.by ∙ by)
 
@@ -40,10 +39,9 @@ module _ (ring : Layout) (h : History) (id : ℕ) (d : Durable) (k : IsHistory r
   prev_agrees zero is le same = record { left = omega arith; right = omega arith; same = refl }
   prev_agrees (suc q) is le same =
       log_match ring h d.term d.term (suc q) d.log (h.book d.term) n.log book_log (omega arith) le (omega (arith, s.fits))
-        (same ∙ (sym s.prev_term ∙ ap (term_at (h.book d.term)) (sym is)))
+      (same ∙ (sym s.prev_term ∙ ap (term_at (h.book d.term)) (sym is)))
 
   module _ (a : Agree prev.position d.log (h.book d.term)) where
-
     abbrev rest : List Entry
     rest = unmatched d.log prev.position es
 
@@ -55,14 +53,20 @@ module _ (ring : Layout) (h : History) (id : ℕ) (d : Durable) (k : IsHistory r
 
     pub cut_may : 0 < length rest → MayFollow ring h id d (take merged.kept d.log)
     cut_may some = record {
-      leader = s.election; led = s.led; of_term = s.of_term; not_mine = not_mine;
+      leader = s.election;
+      led = s.led;
+      of_term = s.of_term;
+      not_mine = not_mine;
       follows = cut_followed d.log (h.book d.term) es rest prev.position merged some;
       log = log_take ring h d.term merged.kept d.log merged.agree.left n.log;
     }
 
     pub add_may : MayFollow ring h id (record d { log = take merged.kept d.log }) (take merged.kept d.log ++ rest)
     add_may = record {
-      leader = s.election; led = s.led; of_term = s.of_term; not_mine = not_mine;
+      leader = s.election;
+      led = s.led;
+      of_term = s.of_term;
+      not_mine = not_mine;
       follows = more_followed (take merged.kept d.log) rest (h.book d.term);
       log = subst (IsBookedLog ring h d.term) (sym whole) (log_take ring h d.term (prev.position + length es) (h.book d.term) s.fits book_log);
     }
@@ -75,8 +79,8 @@ module _ (ring : Layout) (h : History) (id : ℕ) (d : Durable) (k : IsHistory r
     pub holds_new : (l : List Entry) → l ≡ take merged.kept d.log ++ rest → Agree (prev.position + length es) l (h.book d.term)
     holds_new l is =
         subst (λ (m : List Entry). Agree (prev.position + length es) m (h.book d.term)) (sym (is ∙ whole))
-          (let b = agree_take (prev.position + length es) (prev.position + length es) (h.book d.term) (omega arith) s.fits in
-           agree_sym (prev.position + length es) (h.book d.term) (take (prev.position + length es) (h.book d.term)) b)
+        (let b = agree_take (prev.position + length es) (prev.position + length es) (h.book d.term) (omega arith) s.fits in
+        agree_sym (prev.position + length es) (h.book d.term) (take (prev.position + length es) (h.book d.term)) b)
 
     pub holds_old : length rest ≡ 0 → Agree (prev.position + length es) d.log (h.book d.term)
     holds_old none = agree_less (prev.position + length es) merged.kept d.log (h.book d.term) (omega (arith, merged.count)) merged.agree

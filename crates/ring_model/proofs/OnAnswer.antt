@@ -1,5 +1,5 @@
 -- A leader that hears an answer to an Append: what a member matched it has acknowledged, so the count of holders commits; the word to elect itself claims nothing.
-use Rattle.std.proofs.Common.{◌≡◌, ℕ, ◌+◌, ◌-◌, ◌<◌, ◌≤◌, ◌==◌, ◌⊎◌, ◌&&◌, ◌||◌, [], ◌∷◌, ◌++◌, ◌∙◌, if◌then◌else◌, Bool, List, ap, arith, false, inl, inr, length, refl, subst, suc, sym, true, zero}
+use Rattle.std.proofs.Common.{◌≡◌, ℕ, ◌<◌, ◌≤◌, ◌==◌, ◌&&◌, [], ◌∷◌, ◌∙◌, if◌then◌else◌, Bool, List, ap, arith, false, inl, inr, length, refl, subst, suc, sym, true, zero}
 use Rattle.std.proofs.lemmas.List.{append-nil}
 use Rattle.std.proofs.lemmas.Bool.{cases_lt}
 use Rattle.std.proofs.lemmas.Bool.Decides.{nat_tests}
@@ -40,24 +40,25 @@ heard_matched h from t p ok (x ∷ peers) f g y c some = go (x.node == from) ref
   where
     one : (b : Bool) → ok ≡ b → x.node ≡ from → 0 < (heard_from x b p).matched → HasAcked h x.node t (heard_from x b p).matched
     one true is same more = elim (cases_lt 0 x.matched) [
-        inl had ↦ greater_by (λ (w : ℕ). HasAcked h x.node t w) x.matched p (f x (zero, omega arith, refl) had) (subst (λ (w : ℕ). HasAcked h w t p) (sym same) (g is))
+      | inl had ↦ greater_by (λ (w : ℕ). HasAcked h x.node t w) x.matched p (f x (zero, omega arith, refl) had) (subst (λ (w : ℕ). HasAcked h w t p) (sym same) (g is))
       | inr none ↦ greater_by (λ (w : ℕ). HasAcked h x.node t w) x.matched p
           (acked_less h x.node t x.matched p (omega arith) (subst (λ (w : ℕ). HasAcked h w t p) (sym same) (g is))) (subst (λ (w : ℕ). HasAcked h w t p) (sym same) (g is))
-      ]
+    ]
     one false is same more = f x (zero, omega arith, refl) more
+
     go : (a : Bool) → (x.node == from) ≡ a → (b : Bool) → ok ≡ b → Contains (heard_among (x ∷ peers) from ok p) y → ((z : Peer) → Contains (heard_among peers from ok p) z → 0 < z.matched → HasAcked h z.node t z.matched) → HasAcked h y.node t y.matched
     go true e b is c ih = let u = rw e at c in elim (cons_cases (heard_from x ok p) (heard_among peers from ok p) y u) [
-        inl here ↦ at_heard b is (ap (λ (w : Bool). heard_from x w p) (sym is) ∙ here)
+      | inl here ↦ at_heard b is (ap (λ (w : Bool). heard_from x w p) (sym is) ∙ here)
       | inr there ↦ ih y there some
-      ]
+    ]
       where
         at_heard : (b : Bool) → ok ≡ b → heard_from x b p ≡ y → HasAcked h y.node t y.matched
         at_heard true is here = subst (λ (w : Peer). HasAcked h w.node t w.matched) here (one true is (grind (arith, nat_tests, e)) (let m = ap (λ (w : Peer). w.matched) here in omega arith))
         at_heard false is here = subst (λ (w : Peer). HasAcked h w.node t w.matched) here (one false is (grind (arith, nat_tests, e)) (let m = ap (λ (w : Peer). w.matched) here in omega arith))
     go false e b is c ih = let u = rw e at c in elim (cons_cases x (heard_among peers from ok p) y u) [
-        inl here ↦ subst (λ (w : Peer). HasAcked h w.node t w.matched) here (f x (zero, omega arith, refl) (let m = ap (λ (w : Peer). w.matched) here in omega arith))
+      | inl here ↦ subst (λ (w : Peer). HasAcked h w.node t w.matched) here (f x (zero, omega arith, refl) (let m = ap (λ (w : Peer). w.matched) here in omega arith))
       | inr there ↦ ih y there some
-      ]
+    ]
 
 greater_both : (a b : ℕ) → (a ≤ greater_of a b) × (b ≤ greater_of a b)
 greater_both a b = go (nat_le a b) refl
@@ -80,13 +81,13 @@ heard_next from p n ok (x ∷ peers) le f y c = go (x.node == from) refl c (λ z
   where
     go : (a : Bool) → (x.node == from) ≡ a → Contains (heard_among (x ∷ peers) from ok p) y → ((z : Peer) → Contains (heard_among peers from ok p) z → (z.matched < z.next) × (z.next ≤ suc n)) → (y.matched < y.next) × (y.next ≤ suc n)
     go true e c ih = let u = rw e at c in elim (cons_cases (heard_from x ok p) (heard_among peers from ok p) y u) [
-        inl here ↦ subst (λ (w : Peer). (w.matched < w.next) × (w.next ≤ suc n)) here (heard_one x ok p n le (f x (zero, omega arith, refl)))
+      | inl here ↦ subst (λ (w : Peer). (w.matched < w.next) × (w.next ≤ suc n)) here (heard_one x ok p n le (f x (zero, omega arith, refl)))
       | inr there ↦ ih y there
-      ]
+    ]
     go false e c ih = let u = rw e at c in elim (cons_cases x (heard_among peers from ok p) y u) [
-        inl here ↦ subst (λ (w : Peer). (w.matched < w.next) × (w.next ≤ suc n)) here (f x (zero, omega arith, refl))
+      | inl here ↦ subst (λ (w : Peer). (w.matched < w.next) × (w.next ≤ suc n)) here (f x (zero, omega arith, refl))
       | inr there ↦ ih y there
-      ]
+    ]
 
 -- what an answer counts for
 record IsCounted (d : Durable) (s : Soft) (answer : AppendReply) : Type 0 where
@@ -110,11 +111,14 @@ hears_row ring h m id from answer d s count k n r in_m by is =
     let l : IsLeader h id d s = subst (λ (o : Role). HasRole h id d s o) count.leads r.role in
     let t : Soft = record s { peers = heard_among s.peers from answer.ok answer.position } in
     let new : IsLeader h id d t = record {
-          election = l.election; led = l.led; by = l.by; of_term = l.of_term;
-          matched = λ q in_q some. heard_matched h from d.term answer.position answer.ok s.peers l.matched
-              (λ agreed. By_reply m answer.position in_m by (is ∙ (ap (λ (v : Bool). body.AppendReply (record { term = answer.term; ok = v; position = answer.position })) agreed ∙ ap (λ (u : ℕ). ok_reply u answer.position) count.of_term)) (omega arith)) q in_q some;
-          next = λ q in_q. heard_next from answer.position (length d.log) answer.ok s.peers count.inside l.next q in_q;
-        } in
+      election = l.election;
+      led = l.led;
+      by = l.by;
+      of_term = l.of_term;
+      matched = λ q in_q some. heard_matched h from d.term answer.position answer.ok s.peers l.matched
+          (λ agreed. By_reply m answer.position in_m by (is ∙ (ap (λ (v : Bool). body.AppendReply (record { term = answer.term; ok = v; position = answer.position })) agreed ∙ ap (λ (u : ℕ). ok_reply u answer.position) count.of_term)) (omega arith)) q in_q some;
+      next = λ q in_q. heard_next from answer.position (length d.log) answer.ok s.peers count.inside l.next q in_q;
+    } in
     advance_row ring h h id d s t [] [] Ends k n count.leads new r.sealed r.applied (Led_on (ap is_leader count.leads) refl)
 
 ack_row : (ring : Layout) (h : History) (m : Message) (id from : ℕ) (answer : AppendReply) (d : Durable) (s : Soft) → IsHistory ring h → IsNode ring h id d → IsRunning ring h id d s
@@ -133,7 +137,9 @@ more_row : (ring : Layout) (h : History) (id to term : ℕ) (d : Durable) (s : S
 more_row ring h id to term d s st row =
     let m : Message = message id to (body.TimeoutNow term) in
     record {
-      acted = row.acted; path = row.path; sent = with_message row.sent m;
+      acted = row.acted;
+      path = row.path;
+      sent = with_message row.sent m;
       sends = sends_more ring id (all_done d st.plan.actions) row.acted row.sent st.plan.messages m row.sends tt (record { from = refl; answers = λ u v bad. absurd cc });
       role = role_sent ring row.sent m id (all_done d st.plan.actions) st.soft st.soft.role row.role;
       sealed = sealed_sent ring row.sent m (all_done d st.plan.actions).term st.soft.commit (all_done d st.plan.actions).log row.sealed;
@@ -143,9 +149,14 @@ more_row ring h id to term d s st row =
 
 none_more_row : (ring : Layout) (h : History) (id : ℕ) (d : Durable) (s : Soft) (st : Step) → IsRow ring h id d s st → IsRow ring h id d s (with_more st [])
 none_more_row ring h id d s st row = record {
-  acted = row.acted; path = row.path; sent = row.sent;
+  acted = row.acted;
+  path = row.path;
+  sent = row.sent;
   sends = subst (λ (ms : List Message). Sends ring id (all_done d st.plan.actions) row.acted ms row.sent) (sym (append-nil st.plan.messages)) row.sends;
-  role = row.role; sealed = row.sealed; applied = row.applied; holding = row.holding;
+  role = row.role;
+  sealed = row.sealed;
+  applied = row.applied;
+  holding = row.holding;
 }
 
 over_row : (ring : Layout) (h : History) (id from : ℕ) (e d : Durable) (s : Soft) (peers : List Peer) (t : Transfer) (st : Step) → IsRow ring h id d s st → IsRow ring h id d s (with_more st (after_ok id e peers from t))

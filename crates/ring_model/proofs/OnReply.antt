@@ -1,5 +1,5 @@
 -- A candidate that hears a reply: it takes a greater term, or counts one more grant, which joins its candidacy since it asked once in its term.
-use Rattle.std.proofs.Common.{◌≡◌, ℕ, ◌+◌, ◌-◌, ◌<◌, ◌≤◌, ◌==◌, ◌⊎◌, ◌&&◌, ◌||◌, [], ◌∷◌, ◌++◌, ◌∙◌, if◌then◌else◌, Bool, List, ap, arith, false, not, refl, subst, true}
+use Rattle.std.proofs.Common.{◌≡◌, ℕ, ◌==◌, ◌&&◌, [], ◌∷◌, ◌++◌, if◌then◌else◌, Bool, List, ap, arith, false, not, refl, subst, true}
 use Rattle.std.proofs.lemmas.Bool.Decides.{nat_tests}
 use Rattle.std.specs.Prelude.{nat_lt}
 use Rattle.ring_types.specs.declared.entries.Grant.{Grant}
@@ -34,11 +34,13 @@ reply_row ring h id from reply d s k n r sent = go s.role refl
   where
     grants : List Grant
     grants = s.grants ++ record { voter = from; votes = reply.votes } ∷ []
+
     joins : s.role ≡ Candidate → reply.granted ≡ true → reply.term ≡ d.term → IsCandidate h id d (s.grants ++ record { voter = from; votes = reply.votes } ∷ [])
     joins is agreed same =
         let x : IsCandidate h id d s.grants = subst (λ (o : Role). HasRole h id d s o) is r.role in
         let y = sent agreed in
         grant_joins ring h id d k n s.grants (record { voter = from; votes = reply.votes }) y.0 x (subst (λ (u : ℕ). IsGrant h id u y.0 (record { voter = from; votes = reply.votes })) same y.1)
+
     count : s.role ≡ Candidate → (b : Bool) → (reply.granted && reply.term == d.term && not (has_granted s.grants from)) ≡ b
         → IsRow ring h id d s (if b then lead_or_ask ring id d s [] [] (s.grants ++ record { voter = from; votes = reply.votes } ∷ []) [] else idle s)
     count role false is = idle_row ring h id d s r
@@ -46,9 +48,11 @@ reply_row ring h id from reply d s k n r sent = go s.role refl
         let two = counts_grant reply.granted (reply.term == d.term) (has_granted s.grants from) is in
         let x = joins role two.0 (grind (arith, nat_tests, two.1)) in
         ask_row ring h h h id d s s [] [] (s.grants ++ record { voter = from; votes = reply.votes } ∷ []) [] Ends tt (ap is_leader role) k n x Sent_all x r.sealed r.sealed r.applied
+
     hears : s.role ≡ Candidate → (a : Bool) → nat_lt d.term reply.term ≡ a → IsRow ring h id d s (if a then stepped (action.SetTerm reply.term ∷ []) [] (unknowns s) (demoted s) else count_grant ring id d s from reply)
     hears role true is = raise_row ring h id reply.term d s (grind (arith, nat_tests, is)) r
     hears role false is = count role (reply.granted && reply.term == d.term && not (has_granted s.grants from)) refl
+
     go : (o : Role) → s.role ≡ o → IsRow ring h id d s (elim o [ Follower ↦ idle s | Candidate ↦ candidate_hears ring id d s from reply | Leader ↦ idle s ])
     go Follower role = idle_row ring h id d s r
     go Candidate role = hears role (nat_lt d.term reply.term) refl

@@ -1,5 +1,5 @@
 -- A voter that answers a request: a new vote reports all votes of terms in between, and a vote kept for the term was asked for just as this request asks.
-use Rattle.std.proofs.Common.{◌≡◌, ℕ, ◌+◌, ◌-◌, ◌<◌, ◌≤◌, ◌==◌, ◌⊎◌, ◌&&◌, ◌||◌, [], ◌∷◌, ◌++◌, ◌∙◌, if◌then◌else◌, Bool, List, None, Option, Some, ap, arith, false, inl, inr, refl, subst, suc, sym, true, zero}
+use Rattle.std.proofs.Common.{◌≡◌, ℕ, ◌<◌, ◌≤◌, ◌==◌, ◌⊎◌, [], ◌∷◌, ◌++◌, ◌∙◌, if◌then◌else◌, Bool, List, None, Option, Some, ap, arith, false, inl, inr, refl, subst, suc, sym, true, zero}
 use Rattle.std.proofs.lemmas.List.Elements.{Contains-push}
 use Rattle.std.proofs.lemmas.Bool.Decides.{nat_tests}
 use Rattle.std.specs.List.{Contains}
@@ -21,7 +21,6 @@ use Rattle.ring_model.specs.Actions.{all_done, done, has_room, vote_in}
 use Rattle.ring_model.specs.Elections.{answer_by, answer_request, cast_actions, floor_of, grant_vote, granted_now, new_vote, on_request, refuse_vote, refused_now, voter_answers}
 use Rattle.ring_model.specs.Steps.{demoted, idle, stepped, unknowns}
 use Rattle.ring_model.specs.Nodes.{is_leader}
-use Rattle.ring_model.specs.Dispatch.{step}
 use Rattle.ring_model.specs.Needs.{votes_between}
 use Rattle.ring_model.specs.declared.effects.Action.TheVariants as action
 use Rattle.ring_model.specs.declared.messages.Body.TheVariants as body
@@ -85,13 +84,15 @@ module _ (ring : Layout) (h : History) (id from : ℕ) (asked : RequestVote) (d 
     (p : Path ring id h d first h) (before : IsBefore ring id h h d first p) (standing : (is_leader o.role ≡ true) ⊎ (is_leader s.role ≡ false)) (n : IsNode ring h id (all_done d first)) (is_t : (all_done d first).term ≡ asked.term)
     (same_log : (all_done d first).log ≡ d.log) (same_votes : (all_done d first).votes ≡ d.votes)
     (role : HasRole h id (all_done d first) s s.role) (sealed : IsSealed ring h (all_done d first).term s.commit (all_done d first).log) (applied : (all_done d first).applied ≤ s.commit) where
-
   quiet_standing : (m : History) (steps : List Action) (path : Path ring id h d steps m) → elected ring id h m d steps path ≡ [] → Holding ring id h m d o s steps path
   quiet_standing m steps path none = elim standing [ inl led ↦ Led_before led none | inr not_led ↦ Leads_not not_led none ]
 
   refused_row : IsRow ring h id d o (refused_now id s first says from asked.term)
   refused_row = record {
-    acted = h; path = p; sent = with_message h (refuse_vote id from asked.term); sends = refused_sent ring h id from asked.term (all_done d first);
+    acted = h;
+    path = p;
+    sent = with_message h (refuse_vote id from asked.term);
+    sends = refused_sent ring h id from asked.term (all_done d first);
     role = role_sent ring h (refuse_vote id from asked.term) id (all_done d first) s s.role role;
     sealed = sealed_sent ring h (refuse_vote id from asked.term) (all_done d first).term s.commit (all_done d first).log sealed;
     applied = applied;
@@ -103,9 +104,11 @@ module _ (ring : Layout) (h : History) (id from : ℕ) (asked : RequestVote) (d 
       let e : Durable = all_done d first in
       let c = kept_vote ring h id e k n w from asked.last in_w (w_t ∙ sym is_t) w_from sent.0 sent.1 sent.2 sent.3 (sent.4 ∙ sym is_t) sent.5 in
       let g : IsGrant h from asked.term asked.last (record { voter = id; votes = votes_between asked.last.term asked.term e.votes }) =
-            subst (λ (u : ℕ). IsGrant h from u asked.last (record { voter = id; votes = votes_between asked.last.term u e.votes })) is_t (reports_all ring h id e k n c.0 from asked.last c.1 c.2 c.3 c.4 c.5) in
+      subst (λ (u : ℕ). IsGrant h from u asked.last (record { voter = id; votes = votes_between asked.last.term u e.votes })) is_t (reports_all ring h id e k n c.0 from asked.last c.1 c.2 c.3 c.4 c.5) in
       record {
-        acted = h; path = p; sent = with_message h (grant_vote id from asked e);
+        acted = h;
+        path = p;
+        sent = with_message h (grant_vote id from asked e);
         sends = Sends_on {m = grant_vote id from asked e} (λ ok. (asked.last, g)) (record { from = refl; answers = λ u v bad. absurd cc }) Sent_all;
         role = role_sent ring h (grant_vote id from asked e) id e s s.role role;
         sealed = sealed_sent ring h (grant_vote id from asked e) e.term s.commit e.log sealed;
@@ -119,16 +122,16 @@ module _ (ring : Layout) (h : History) (id from : ℕ) (asked : RequestVote) (d 
       let e : Durable = all_done d first in
       let c : Cast = record { voter = id; vote = new_vote ring asked.term from; asked = asked.last } in
       let may : MayVote ring h id e c (floor_of d s) = record {
-            by = refl;
-            of_term = sym is_t;
-            first = λ w in_w is. none w in_w (is ∙ is_t);
-            of_region = refl;
-            self = inr (sent.0, sent.1, sent.2, vote_is ring sent.0.vote asked.term from sent.4 sent.3 (k.casts sent.0 sent.1).of_region, sent.5);
-            asked = up;
-            floor_at = s.commit;
-            floor_sealed = sealed;
-            floor_below = omega (arith, floor);
-          } in
+        by = refl;
+        of_term = sym is_t;
+        first = λ w in_w is. none w in_w (is ∙ is_t);
+        of_region = refl;
+        self = inr (sent.0, sent.1, sent.2, vote_is ring sent.0.vote asked.term from sent.4 sent.3 (k.casts sent.0 sent.1).of_region, sent.5);
+        asked = up;
+        floor_at = s.commit;
+        floor_sealed = sealed;
+        floor_below = omega (arith, floor);
+      } in
       let vote : Action = action.Vote (new_vote ring asked.term from) (floor_of d s) in
       let m : History = with_cast h c in
       let step : Path ring id h e (vote ∷ []) m = Goes_on (Votes c (floor_of d s) refl may refl) Ends in
@@ -136,22 +139,22 @@ module _ (ring : Layout) (h : History) (id from : ℕ) (asked : RequestVote) (d 
       let f : Durable = done e vote in
       let j = done_join d first (vote ∷ []) in
       let g : IsGrant m from asked.term asked.last (record { voter = id; votes = votes_between asked.last.term asked.term f.votes }) =
-            subst (λ (u : ℕ). IsGrant m from u asked.last (record { voter = id; votes = votes_between asked.last.term u f.votes })) is_t
-              (reports_all ring m id f a.history a.node c from asked.last (Contains-push h.casts c) refl (sym is_t) refl refl) in
+      subst (λ (u : ℕ). IsGrant m from u asked.last (record { voter = id; votes = votes_between asked.last.term u f.votes })) is_t
+      (reports_all ring m id f a.history a.node c from asked.last (Contains-push h.casts c) refl (sym is_t) refl refl) in
       let answer : Message = grant_vote id from asked f in
       let sends : Sends ring id f m (answer ∷ []) (with_message m answer) = Sends_on {m = answer} (λ ok. (asked.last, g)) (record { from = refl; answers = λ u v bad. absurd cc }) Sent_all in
       let row : IsRow ring h id d o (stepped (first ++ (vote ∷ [])) (answer ∷ []) says s) = record {
-            acted = m;
-            path = path_join ring id h h m d first (vote ∷ []) p (Goes_on (Votes c (floor_of d s) refl may refl) Ends);
-            sent = with_message m answer;
-            sends = subst (λ (w : Durable). Sends ring id w m (answer ∷ []) (with_message m answer)) (sym j) sends;
-            role = subst (λ (w : Durable). HasRole (with_message m answer) id w s s.role) (sym j) (role_sent ring m answer id f s s.role (role_cast ring h c (floor_of d s) id e s s.role a.grows role));
-            sealed = subst (λ (w : Durable). IsSealed ring (with_message m answer) w.term s.commit w.log) (sym j)
-                (sealed_sent ring m answer e.term s.commit e.log (grow_sealed ring id h m a.grows e.term e.term s.commit e.log (omega arith) sealed));
-            applied = subst (λ (w : Durable). w.applied ≤ s.commit) (sym j) applied;
-            holding = quiet_standing m (first ++ (vote ∷ [])) (path_join ring id h h m d first (vote ∷ []) p (Goes_on (Votes c (floor_of d s) refl may refl) Ends))
-                (quiet_join ring id h h m d first (vote ∷ []) p (Goes_on (Votes c (floor_of d s) refl may refl) Ends) (before_quiet ring id h h d first p before) refl);
-          } in
+        acted = m;
+        path = path_join ring id h h m d first (vote ∷ []) p (Goes_on (Votes c (floor_of d s) refl may refl) Ends);
+        sent = with_message m answer;
+        sends = subst (λ (w : Durable). Sends ring id w m (answer ∷ []) (with_message m answer)) (sym j) sends;
+        role = subst (λ (w : Durable). HasRole (with_message m answer) id w s s.role) (sym j) (role_sent ring m answer id f s s.role (role_cast ring h c (floor_of d s) id e s s.role a.grows role));
+        sealed = subst (λ (w : Durable). IsSealed ring (with_message m answer) w.term s.commit w.log) (sym j)
+            (sealed_sent ring m answer e.term s.commit e.log (grow_sealed ring id h m a.grows e.term e.term s.commit e.log (omega arith) sealed));
+        applied = subst (λ (w : Durable). w.applied ≤ s.commit) (sym j) applied;
+        holding = quiet_standing m (first ++ (vote ∷ [])) (path_join ring id h h m d first (vote ∷ []) p (Goes_on (Votes c (floor_of d s) refl may refl) Ends))
+            (quiet_join ring id h h m d first (vote ∷ []) p (Goes_on (Votes c (floor_of d s) refl may refl) Ends) (before_quiet ring id h h d first p before) refl);
+      } in
       subst (λ (w : Durable). IsRow ring h id d o (stepped (first ++ (vote ∷ [])) (grant_vote id from asked w ∷ []) says s)) (sym j) row
 
   pub answer_row : IsRow ring h id d o (answer_request ring id d s first says from asked)
@@ -161,12 +164,14 @@ module _ (ring : Layout) (h : History) (id from : ℕ) (asked : RequestVote) (d 
           → IsRow ring h id d o (if b then granted_now id d s first says from asked else refused_now id s first says from asked.term)
       kept w x true y = kept_row w x.0 x.1 (grind (arith, nat_tests, y))
       kept w x false y = refused_row
+
       fresh : vote_in d.votes asked.term ≡ None → (a : Bool) → at_least asked.last (last d.log) ≡ a → (b : Bool)
           → IsRow ring h id d o (if a then (if b then granted_now id d s (cast_actions ring d s first from asked.term) says from asked else refused_now id s first says from asked.term) else refused_now id s first says from asked.term)
       fresh is true x true = cast_row (λ w in_w w_t. none_in_term d.votes asked.term w is (subst (λ (v : List Vote). Contains v w) same_votes in_w) w_t)
           (subst (IsUpToDate asked.last) (sym same_log) (at_least_is asked.last d.log x)) (ap (λ (l : List Entry). term_at l s.commit) (sym same_log))
       fresh is true x false = refused_row
       fresh is false x b = refused_row
+
       go : (v : Option Vote) → vote_in d.votes asked.term ≡ v → IsRow ring h id d o (answer_by ring id d s first says from asked v)
       go (Some w) is = let x = kept_in_term d.votes asked.term w is in kept w (subst (λ (v : List Vote). Contains v w) (sym same_votes) x.0, x.1) (w.candidate == from) refl
       go None is = fresh is (at_least asked.last (last d.log)) refl (has_room (floor_of d s) d.votes)
@@ -182,21 +187,28 @@ request_row ring h id from asked d s k n r sent = voter (votes ring id)
         pick : (b : Bool) → is_leader s.role ≡ b → (is_leader s.role ≡ true) ⊎ (is_leader s.role ≡ false)
         pick true is = inl is
         pick false is = inr is
+
     go : (a : Bool) → nat_lt asked.term d.term ≡ a → (b : Bool) → nat_lt d.term asked.term ≡ b
         → IsRow ring h id d s (if a then refused_now id s [] [] from d.term
-            else (if b then answer_request ring id d (demoted s) (action.SetTerm asked.term ∷ []) (unknowns s) from asked else answer_request ring id d s [] [] from asked))
+        else (if b then answer_request ring id d (demoted s) (action.SetTerm asked.term ∷ []) (unknowns s) from asked else answer_request ring id d s [] [] from asked))
     go true x b y = record {
-      acted = h; path = Ends; sent = with_message h (refuse_vote id from d.term); sends = refused_sent ring h id from d.term d;
-      role = role_sent ring h (refuse_vote id from d.term) id d s s.role r.role; sealed = sealed_sent ring h (refuse_vote id from d.term) d.term s.commit d.log r.sealed; applied = r.applied;
+      acted = h;
+      path = Ends;
+      sent = with_message h (refuse_vote id from d.term);
+      sends = refused_sent ring h id from d.term d;
+      role = role_sent ring h (refuse_vote id from d.term) id d s s.role r.role;
+      sealed = sealed_sent ring h (refuse_vote id from d.term) d.term s.commit d.log r.sealed;
+      applied = r.applied;
       holding = stays_holding ring id h d s s refl;
     }
     go false x true y =
         let up : d.term < asked.term = grind (arith, nat_tests, y) in
         answer_row ring h id from asked d s (demoted s) (action.SetTerm asked.term ∷ []) (unknowns s) k sent (Goes_on (Raises asked.term refl up refl) Ends) tt (inr refl) (raise_keeps ring h id asked.term d up n) refl refl refl tt
-          (seal_raise ring h d.term asked.term s.commit d.log (omega arith) r.sealed) r.applied
+        (seal_raise ring h d.term asked.term s.commit d.log (omega arith) r.sealed) r.applied
     go false x false y =
         let is : d.term ≡ asked.term = grind (arith, nat_tests, x, y) in
         answer_row ring h id from asked d s s [] [] k sent Ends tt as_it_is n is refl refl r.role r.sealed r.applied
+
     voter : (b : Bool) → IsRow ring h id d s (if b then voter_answers ring id d s from asked else idle s)
     voter true = go (nat_lt asked.term d.term) refl (nat_lt d.term asked.term) refl
     voter false = idle_row ring h id d s r

@@ -1,5 +1,5 @@
 -- A step's actions as guarded moves, each of which keeps the invariant; so each beginning of them does, and only a winning move holds an election.
-use Rattle.std.proofs.Common.{◌≡◌, ℕ, ◌+◌, ◌-◌, ◌<◌, ◌≤◌, ◌==◌, ◌⊎◌, ◌&&◌, ◌||◌, [], ◌∷◌, ◌++◌, ◌∙◌, if◌then◌else◌, List, ap, append_assoc, arith, inl, inr, length, refl, subst, suc, sym, take, zero}
+use Rattle.std.proofs.Common.{◌≡◌, ℕ, ◌<◌, ◌≤◌, [], ◌∷◌, ◌++◌, ◌∙◌, List, ap, append_assoc, arith, inl, inr, length, refl, subst, suc, sym, take, zero}
 use Rattle.std.proofs.lemmas.List.{append-nil}
 use Rattle.std.specs.List.{Contains}
 use Rattle.ring_types.specs.declared.entries.Entry.{Entry}
@@ -10,14 +10,14 @@ use Rattle.ring_types.specs.Logs.{term_at}
 use Rattle.ring_model.specs.declared.effects.Action.{Action}
 use Rattle.ring_model.specs.Safety.{Agree}
 use Rattle.ring_model.specs.declared.nodes.Durable.{Durable}
-use Rattle.ring_model.specs.Runs.{Election, elections, first_append}
+use Rattle.ring_model.specs.Runs.{Election, first_append}
 use Rattle.ring_model.specs.Actions.{all_done, done}
 use Rattle.ring_model.specs.declared.effects.Action.TheVariants as action
 use Rattle.ring_model.proofs.Invariant.{Cast, Cut_by, History, IsBookedLog, IsHistory, IsNode, IsSealed, Kept}
 use Rattle.ring_model.proofs.Growth.{Grows, agree_less, agree_trans}
 use Rattle.ring_model.proofs.Casting.{MayVote, cast_grows, cast_keeps_history, cast_keeps_node, raise_keeps, with_cast}
 use Rattle.ring_model.proofs.Following.{IsFollowed, agree_same, follow_keeps}
-use Rattle.ring_model.proofs.Leading.{MayAdd, MayLead, added_grows, added_history, added_node, led_grows, led_history, led_log, led_node, with_book, with_election}
+use Rattle.ring_model.proofs.Leading.{MayAdd, MayLead, added_grows, added_history, added_node, led_grows, led_history, led_node, with_book, with_election}
 use Rattle.ring_model.proofs.Sending.{apply_keeps}
 
 -- the two parts of a node that the ring's safety does not look at may differ
@@ -72,9 +72,9 @@ grows_trans id h g f x y = record {
   casts = λ c in_c. y.casts c (x.casts c in_c);
   messages = λ m in_m. y.messages m (x.messages m in_m);
   books = λ e in_e.
-    let a = x.books e in_e in
-    let b = y.books e (x.elections e in_e) in
-    agree_trans (length (h.book e.term)) (h.book e.term) (g.book e.term) (f.book e.term) a (agree_less (length (h.book e.term)) (length (g.book e.term)) (g.book e.term) (f.book e.term) a.right b);
+      let a = x.books e in_e in
+      let b = y.books e (x.elections e in_e) in
+      agree_trans (length (h.book e.term)) (h.book e.term) (g.book e.term) (f.book e.term) a (agree_less (length (h.book e.term)) (length (g.book e.term)) (g.book e.term) (f.book e.term) a.right b);
   other_books = λ e in_e other. x.other_books e in_e other ∙ y.other_books e (x.elections e in_e) other;
   chosen = omega (arith, x.chosen, y.chosen);
   new_elections = λ e in_e. elim (y.new_elections e in_e) [ inl old ↦ x.new_elections e old | inr new ↦ inr new ];
@@ -94,13 +94,13 @@ same_node ring h id d e s n = record {
   cast_kept = λ c in_c by t. subst (λ (v : List Vote). Contains v c.vote) (sym s.votes) (n.cast_kept c in_c by (t ∙ s.term));
   votes_cast = λ w in_w. n.votes_cast w (subst (λ (v : List Vote). Contains v w) s.votes in_w);
   dropped = λ c in_c by. elim (n.dropped c in_c by) [
-      inl kept ↦ inl (subst (λ (v : List Vote). Contains v c.vote) (sym s.votes) kept)
+    | inl kept ↦ inl (subst (λ (v : List Vote). Contains v c.vote) (sym s.votes) kept)
     | inr gone ↦ inr (record {
-        at = gone.at;
-        sealed = subst (λ (l : List Entry). IsSealed ring h e.term gone.at l) (sym s.log) (subst (λ (t : ℕ). IsSealed ring h t gone.at d.log) (sym s.term) gone.sealed);
-        above = subst (λ (l : List Entry). c.vote.term ≤ term_at l gone.at) (sym s.log) gone.above;
-      })
-    ];
+      at = gone.at;
+      sealed = subst (λ (l : List Entry). IsSealed ring h e.term gone.at l) (sym s.log) (subst (λ (t : ℕ). IsSealed ring h t gone.at d.log) (sym s.term) gone.sealed);
+      above = subst (λ (l : List Entry). c.vote.term ≤ term_at l gone.at) (sym s.log) gone.above;
+    })
+  ];
   between = λ c f in_c in_f by_c by_f t low high. subst (λ (v : List Vote). Contains v f.vote) (sym s.votes) (n.between c f in_c in_f by_c by_f (t ∙ s.term) low high);
   acked_below = λ q p a. omega (arith, n.acked_below q p a, s.term);
   acked = λ q p a. elim (n.acked q p a) [ Kept x ↦ Kept (subst (λ (l : List Entry). Agree p (h.book q) l) (sym s.log) x) | Cut_by u o le ↦ Cut_by u o (omega (arith, s.term)) ];
@@ -118,22 +118,22 @@ guarded_keeps ring id h g d a k n (Raises t is up same) =
     said_move ring id h g h d a (action.SetTerm t) is same (still ring id h (done d (action.SetTerm t)) k (raise_keeps ring h id t d up n))
 guarded_keeps ring id h g d a k n (Votes c floor is may same) =
     said_move ring id h g (with_cast h c) d a (action.Vote c.vote floor) is same
-      (held_after ring id h (with_cast h c) (done d (action.Vote c.vote floor)) (cast_grows ring h id d c floor k n may) (cast_keeps_history ring h id d c floor k n may) (cast_keeps_node ring h id d c floor k n may))
+    (held_after ring id h (with_cast h c) (done d (action.Vote c.vote floor)) (cast_grows ring h id d c floor k n may) (cast_keeps_history ring h id d c floor k n may) (cast_keeps_node ring h id d c floor k n may))
 guarded_keeps ring id h g d a k n (Leads e x is may same) =
     said_move ring id h g (with_election h e (d.log ++ x ∷ [])) d a (action.Append (x ∷ [])) is same
-      (held_after ring id h (with_election h e (d.log ++ x ∷ [])) (done d (action.Append (x ∷ []))) (led_grows ring h id d e x k n may) (led_history ring h id d e x k n may) (led_node ring h id d e x k n may))
+    (held_after ring id h (with_election h e (d.log ++ x ∷ [])) (done d (action.Append (x ∷ []))) (led_grows ring h id d e x k n may) (led_history ring h id d e x k n may) (led_node ring h id d e x k n may))
 guarded_keeps ring id h g d a k n (Adds e x is may same) =
     said_move ring id h g (with_book h d.term (d.log ++ x ∷ [])) d a (action.Append (x ∷ [])) is same
-      (held_after ring id h (with_book h d.term (d.log ++ x ∷ [])) (done d (action.Append (x ∷ []))) (added_grows ring h id d e x k n may) (added_history ring h id d e x k n may) (added_node ring h id d e x k n may))
+    (held_after ring id h (with_book h d.term (d.log ++ x ∷ [])) (done d (action.Append (x ∷ []))) (added_grows ring h id d e x k n may) (added_history ring h id d e x k n may) (added_node ring h id d e x k n may))
 guarded_keeps ring id h g d a k n (Cuts p is may same) =
     said_move ring id h g h d a (action.Truncate p) is same
-      (still ring id h (done d (action.Truncate p)) k (follow_keeps ring h id d (take p d.log) k n may.leader may.led may.of_term may.not_mine may.follows may.log))
+    (still ring id h (done d (action.Truncate p)) k (follow_keeps ring h id d (take p d.log) k n may.leader may.led may.of_term may.not_mine may.follows may.log))
 guarded_keeps ring id h g d a k n (Extends es is may same) =
     said_move ring id h g h d a (action.Append es) is same
-      (still ring id h (done d (action.Append es)) k (follow_keeps ring h id d (d.log ++ es) k n may.leader may.led may.of_term may.not_mine may.follows may.log))
+    (still ring id h (done d (action.Append es)) k (follow_keeps ring h id d (d.log ++ es) k n may.leader may.led may.of_term may.not_mine may.follows may.log))
 guarded_keeps ring id h g d a k n (Applies p is s same) =
     said_move ring id h g h d a (action.Commit p) is same
-      (still ring id h (done d (action.Commit p)) k (same_node ring h id (record d { applied = p }) (done d (action.Commit p)) (record { term = refl; votes = refl; log = refl; applied = refl }) (apply_keeps ring h id p d n s)))
+    (still ring id h (done d (action.Commit p)) k (same_node ring h id (record d { applied = p }) (done d (action.Commit p)) (record { term = refl; votes = refl; log = refl; applied = refl }) (apply_keeps ring h id p d n s)))
 guarded_keeps ring id h g d a k n (Engine s same) =
     subst (λ (w : History). Holds ring id h w (done d a)) (sym same) (still ring id h (done d a) k (same_node ring h id d (done d a) s n))
 
@@ -205,7 +205,7 @@ path_elections ring id h g d [] Ends = sym (append-nil h.elections)
 path_elections ring id h g d (a ∷ rest) (Goes_on {g = m} move path) =
     path_elections ring id m g (done d a) rest path
     ∙ (ap (λ (w : List Election). w ++ elected ring id m g (done d a) rest path) (guarded_elections ring id h m d a move)
-      ∙ append_assoc h.elections (elects ring id h m d a move) (elected ring id m g (done d a) rest path))
+    ∙ append_assoc h.elections (elects ring id h m d a move) (elected ring id m g (done d a) rest path))
 
 -- a move of a path that goes on to an election with these grants: a term or a vote, or the election itself with none after it
 abbrev pub IsHeldBy : (ring : Layout) (id : ℕ) (h g : History) (d : Durable) (a : Action) → List Grant → Guarded ring id h d a g → Type 0 → List Election → Type 0
@@ -318,7 +318,7 @@ election_is : (e : Election) (id : ℕ) (d : Durable) (grants : List Grant) → 
 election_is e id d grants t n b g =
     ap (λ (w : ℕ). election_of w e.node e.base e.grants) t
     ∙ (ap (λ (w : ℕ). election_of d.term w e.base e.grants) n
-      ∙ (ap (λ (w : List Entry). election_of d.term id w e.grants) b ∙ ap (λ (w : List Grant). election_of d.term id d.log w) g))
+    ∙ (ap (λ (w : List Entry). election_of d.term id w e.grants) b ∙ ap (λ (w : List Grant). election_of d.term id d.log w) g))
 
 append_found : (id : ℕ) (grants : List Grant) (d : Durable) (a : Action) (x : Entry) (rest : List Action) → a ≡ action.Append (x ∷ [])
     → first_append id grants d (a ∷ rest) ≡ record { term = d.term; node = id; base = d.log; grants = grants } ∷ []

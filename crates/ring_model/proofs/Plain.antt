@@ -1,5 +1,5 @@
 -- Steps without actions: a node's role and what is sealed stay through the messages that it sends.
-use Rattle.std.proofs.Common.{◌≡◌, ℕ, ◌+◌, ◌-◌, ◌<◌, ◌≤◌, ◌==◌, ◌⊎◌, ◌&&◌, ◌||◌, [], ◌∷◌, ◌++◌, ◌∙◌, if◌then◌else◌, Bool, List, ap, arith, false, refl, subst, sym, true, zero}
+use Rattle.std.proofs.Common.{◌≡◌, ℕ, ◌<◌, [], ◌∷◌, ◌++◌, ◌∙◌, Bool, List, ap, arith, false, refl, subst, sym, true, zero}
 use Rattle.std.proofs.lemmas.List.Elements.{Contains-append_left}
 use Rattle.std.specs.List.{Contains}
 use Rattle.ring_types.specs.declared.entries.Entry.{Entry}
@@ -33,7 +33,13 @@ candidate_sent h m id d grants x = record {
 pub sealed_sent : (ring : Layout) (h : History) (m : Message) (u c : ℕ) (l : List Entry) → IsSealed ring h u c l → IsSealed ring (with_message h m) u c l
 sealed_sent ring h m u c l (Nothing_yet z) = Nothing_yet z
 sealed_sent ring h m u c l (Sealed_at s p a b x y) = Sealed_at s p a b (record {
-  election = x.election; led = x.led; of_term = x.of_term; own = x.own; inside = x.inside; quorum = x.quorum; reached = x.reached;
+  election = x.election;
+  led = x.led;
+  of_term = x.of_term;
+  own = x.own;
+  inside = x.inside;
+  quorum = x.quorum;
+  reached = x.reached;
   acked = λ v in_v. elim (x.acked v in_v) [ As_leader e in_e t by le ↦ As_leader e in_e t by le | By_reply w q in_w by body le ↦ By_reply w q (Contains-append_left h.messages (m ∷ []) w in_w) by body le ];
 }) y
 
@@ -41,7 +47,10 @@ pub role_sent : (ring : Layout) (h : History) (m : Message) (id : ℕ) (d : Dura
 role_sent ring h m id d s Follower x = tt
 role_sent ring h m id d s Candidate x = candidate_sent h m id d s.grants x
 role_sent ring h m id d s Leader x = record {
-  election = x.election; led = x.led; by = x.by; of_term = x.of_term;
+  election = x.election;
+  led = x.led;
+  by = x.by;
+  of_term = x.of_term;
   matched = λ p in_p some. elim (x.matched p in_p some) [ As_leader e in_e t by le ↦ As_leader e in_e t by le | By_reply w q in_w by body le ↦ By_reply w q (Contains-append_left h.messages (m ∷ []) w in_w) by body le ];
   next = x.next;
 }
@@ -87,7 +96,7 @@ sends_all ring id d h (m ∷ ms) k n each =
     let may : MayAnswer h id d m = record { from = x.from; answers = λ s q is. absurd (x.never s q is) } in
     let grows = sent_grows ring h id d m k n x.sent may in
     let rest = sends_all ring id d (with_message h m) ms (sent_history ring h id d m k n x.sent may) (sent_node ring h id d m k n x.sent may)
-          (λ w in_w. let y = each w (in_cons m ms w in_w) in record { sent = sent_stays ring id h (with_message h m) grows w.from w.to w.body y.sent; from = y.from; never = y.never }) in
+    (λ w in_w. let y = each w (in_cons m ms w in_w) in record { sent = sent_stays ring id h (with_message h m) grows w.from w.to w.body y.sent; from = y.from; never = y.never }) in
     (rest.0, Sends_on {m = m} x.sent may rest.1)
 
 -- ---- rows
@@ -100,7 +109,10 @@ pub plain_row : (ring : Layout) (h : History) (id : ℕ) (d : Durable) (s o : So
 plain_row ring h id d s o ms says k n r same count role each =
     let x = sends_all ring id d h ms k n each in
     record {
-      acted = h; path = Ends; sent = x.0; sends = x.1;
+      acted = h;
+      path = Ends;
+      sent = x.0;
+      sends = x.1;
       role = role_sends ring id d h x.0 ms d o o.role x.1 (subst (λ (a : Role). HasRole h id d o a) (sym same) role);
       sealed = sealed_sends ring id d h x.0 ms d.term o.commit d.log x.1 (subst (λ (c : ℕ). IsSealed ring h d.term c d.log) (sym count) r.sealed);
       applied = omega (arith, r.applied, count);

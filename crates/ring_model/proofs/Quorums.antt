@@ -1,11 +1,11 @@
 -- The two quorum laws: two majorities of a region's voters share a voter, since two counts above half of a list meet in it.
-use Rattle.std.proofs.Common.{◌≡◌, ℕ, zero, suc, ◌+◌, ◌/◌, ◌<◌, ◌≤◌, ◌==◌, ◌⊎◌, inl, inr, Bool, true, false, ◌&&◌, List, [], ◌∷◌, ◌++◌, length, refl, ap, sym, ◌∙◌, arith, if◌then◌else◌}
+use Rattle.std.proofs.Common.{◌≡◌, ℕ, zero, ◌+◌, ◌/◌, ◌<◌, ◌≤◌, ◌==◌, Bool, true, false, ◌&&◌, List, [], ◌∷◌, length, refl, ap, sym, ◌∙◌, arith, if◌then◌else◌}
 use Rattle.std.proofs.lemmas.Bool.Decides.{nat_tests}
 use Rattle.std.proofs.lemmas.List.Sums.{sum_by-cons}
-use Rattle.std.specs.List.{Contains, filter, count_by}
+use Rattle.std.specs.List.{Contains, count_by}
 use Rattle.ring_types.specs.declared.members.Member.{Member}
 use Rattle.ring_types.specs.Rings.{Layout, is_voter, voters_of}
-use Rattle.ring_model.specs.Quorums.{is_listed, has_majority, commits, covers, zone, InZone, CommitMeetsCover, CoversMeet}
+use Rattle.ring_model.specs.Quorums.{is_listed, has_majority, InZone, CommitMeetsCover, CoversMeet}
 use Rattle.ring_model.proofs.Lists.{in_cons, filter_of, filter_true, listed_contains, contains_listed, both_true}
 
 count_cons : {X : Type 0} (p : X → Bool) (x : X) (xs : List X) (b : Bool) → p x ≡ b → count_by p (x ∷ xs) ≡ (if b then 1 else 0) + count_by p xs

@@ -1,5 +1,5 @@
 -- A proxy that relays: what it finds by the opids is the first of the leader's entries, since logs that share a term at a place agree up to it.
-use Rattle.std.proofs.Common.{◌≡◌, ℕ, ◌+◌, ◌-◌, ◌<◌, ◌≤◌, ◌==◌, ◌⊎◌, ◌&&◌, ◌||◌, [], ◌∷◌, ◌++◌, ◌∙◌, if◌then◌else◌, Bool, List, None, Option, Some, ap, arith, drop, false, length, refl, subst, suc, sym, take, true, zero}
+use Rattle.std.proofs.Common.{◌≡◌, ℕ, ◌+◌, ◌<◌, ◌≤◌, ◌==◌, [], ◌∷◌, ◌∙◌, Bool, List, None, Option, Some, ap, arith, drop, false, length, refl, subst, suc, sym, take, true, zero}
 use Rattle.std.proofs.lemmas.Bool.Decides.{nat_tests}
 use Rattle.ring_types.specs.declared.entries.Entry.{Entry}
 use Rattle.ring_types.specs.Rings.{Layout}
@@ -75,7 +75,9 @@ relay_row ring h id from sent d s k n r told =
     let f = found_is ring h d.term sent.term sent.prev.position d.log (h.book sent.term) sent.opids n.log book x.fits (sym told.1) in
     let m : Message = message id sent.target (body.Append (record { term = sent.term; leader = from; prev = sent.prev; commit = sent.commit; entries = found d.log sent.opids })) in
     record {
-      acted = h; path = Ends; sent = with_message h m;
+      acted = h;
+      path = Ends;
+      sent = with_message h m;
       sends = Sends_on {m = m} (record { election = x.election; led = x.led; of_term = x.of_term; by = x.by; fits = omega (arith, f.1, x.fits); prev_term = x.prev_term; sealed = x.sealed; chosen = x.chosen }, f.0)
           (record { from = refl; answers = λ u v bad. absurd cc }) Sent_all;
       role = role_sent ring h m id d s s.role r.role;

@@ -1,5 +1,5 @@
 -- Every run of every ring is safe, and each leader's region is covered by the later elections: the invariant holds in the first world and each event keeps it.
-use Rattle.std.proofs.Common.{◌≡◌, ℕ, ◌+◌, ◌-◌, ◌<◌, ◌≤◌, ◌==◌, ◌⊎◌, ◌&&◌, ◌||◌, [], ◌∷◌, ◌++◌, ◌∙◌, if◌then◌else◌, List, ap, arith, false, length, refl, subst, sym, true}
+use Rattle.std.proofs.Common.{◌≡◌, ℕ, ◌≤◌, [], ◌∷◌, ◌++◌, ◌∙◌, List, ap, arith, false, length, refl, subst, sym, true}
 use Rattle.std.proofs.lemmas.List.{append-nil}
 use Rattle.std.specs.List.{Contains}
 use Rattle.ring_types.specs.declared.entries.Entry.{Entry}
@@ -17,19 +17,22 @@ use Rattle.ring_model.proofs.Invariant.{HasRole, History, IsHistory, IsLeader, I
 use Rattle.ring_model.proofs.Growth.{agree_less, agree_trans}
 use Rattle.ring_model.proofs.Cover.{committed_in_book, is_election, leaders_covered}
 use Rattle.ring_model.proofs.Following.{agree_same, log_match}
-use Rattle.ring_model.proofs.Paths.{elected}
-use Rattle.ring_model.proofs.Matching.{never_torn}
 use Rattle.ring_model.proofs.Turns.{IsWorld, in_chosen}
 use Rattle.ring_model.proofs.Events.{Carried, carried_join, event_over, first_history, first_holds, line_whole}
 
 pub run_over : (ring : Layout) (w : WorldState) (h : History) (run : List Move) → IsWorld ring w h → Carried ring w (world_from ring w run) h (elections_from ring w run)
 run_over ring w h [] k = record {
-  after = h; world = k; chosen = agree_same (length w.chosen) w.chosen (omega arith); led = λ e in_e. in_e; sealed = λ u c l x. x; elections = sym (append-nil h.elections);
+  after = h;
+  world = k;
+  chosen = agree_same (length w.chosen) w.chosen (omega arith);
+  led = λ e in_e. in_e;
+  sealed = λ u c l x. x;
+  elections = sym (append-nil h.elections);
 }
 run_over ring w h (m ∷ run) k =
     let x = event_over ring w h m k in
     carried_join ring w (world_step ring w m.event m.completion) (world_from ring (world_step ring w m.event m.completion) run) h (event_elections ring w m) (elections_from ring (world_step ring w m.event m.completion) run) x
-      (run_over ring (world_step ring w m.event m.completion) x.after run x.world)
+    (run_over ring (world_step ring w m.event m.completion) x.after run x.world)
 
 world_join : (ring : Layout) (w : WorldState) (before after : List Move) → world_from ring w (before ++ after) ≡ world_from ring (world_from ring w before) after
 world_join ring w [] after = refl
@@ -91,7 +94,7 @@ applied_prefix ring run =
           (in_chosen ring x.history ((world ring run).nodes id).durable.term ((world ring run).nodes id).durable.applied ((world ring run).nodes id).durable.log k.history (k.nodes id).applied (k.applied id));
       committed = λ id s up. let r = k.running id s up in
           subst (λ (l : List Entry). Agree s.commit ((world ring run).nodes id).durable.log l) k.chosen
-            (in_chosen ring x.history ((world ring run).nodes id).durable.term s.commit ((world ring run).nodes id).durable.log k.history r.sealed r.chosen);
+          (in_chosen ring x.history ((world ring run).nodes id).durable.term s.commit ((world ring run).nodes id).durable.log k.history r.sealed r.chosen);
     }
 
 one_leader_a_term : (ring : Layout) (run : List Move) → OneLeaderATerm (world ring run) (elections ring run)
@@ -108,7 +111,7 @@ logs_match : (ring : Layout) (run : List Move) → LogsMatch (world ring run)
 logs_match ring run i j position some in_i in_j same =
     let x = reached ring run in
     log_match ring x.history ((world ring run).nodes i).durable.term ((world ring run).nodes j).durable.term position ((world ring run).nodes i).durable.log ((world ring run).nodes j).durable.log
-      (x.world.nodes i).log (x.world.nodes j).log some in_i in_j same
+    (x.world.nodes i).log (x.world.nodes j).log some in_i in_j same
 
 chosen_grows : (ring : Layout) (run : List Move) → ChosenOnlyGrows ring run
 chosen_grows ring run before after is = (two_worlds ring before after run is).chosen
@@ -124,7 +127,7 @@ leaders_have ring run before after i j s o is up leads le =
     let y = leader_in ring (world ring run) t.new j o t.new_world leads in
     let book : e.log ≡ t.new.book e.term = (t.new_world.nodes j).led_log y.election y.led y.by y.of_term ∙ ap t.new.book y.of_term in
     subst (λ (b : List Entry). Agree s.commit d.log b) (sym book)
-      (sealed_in_book ring t.new d.term s.commit e.term d.log y.election t.new_world.history y.led y.of_term le (t.sealed d.term s.commit d.log (t.old_world.running i s up).sealed))
+    (sealed_in_book ring t.new d.term s.commit e.term d.log y.election t.new_world.history y.led y.of_term le (t.sealed d.term s.commit d.log (t.old_world.running i s up).sealed))
 
 pub every_run_is_safe_so_far : EveryRunIsSafeSoFar
 every_run_is_safe_so_far ring run lawful = record {

@@ -1,5 +1,5 @@
 -- A message whose words hold may be sent, two committed beginnings agree, and an entry below a committed one may be applied.
-use Rattle.std.proofs.Common.{◌≡◌, ℕ, ◌+◌, ◌-◌, ◌<◌, ◌≤◌, ◌==◌, ◌⊎◌, ◌&&◌, ◌||◌, [], ◌∷◌, ◌++◌, ◌∙◌, if◌then◌else◌, List, ap, arith, inl, inr, length, refl, subst, sym}
+use Rattle.std.proofs.Common.{◌≡◌, ℕ, ◌≤◌, ◌⊎◌, [], ◌∷◌, ◌++◌, ◌∙◌, List, ap, arith, inl, inr, length, refl, subst, sym}
 use Rattle.std.proofs.lemmas.List.Elements.{Contains-append_left, Contains-push_cases}
 use Rattle.std.proofs.lemmas.Bool.{cases_lt}
 use Rattle.ring_types.specs.declared.entries.Entry.{Entry}
@@ -7,12 +7,10 @@ use Rattle.ring_types.specs.Rings.{Layout}
 use Rattle.ring_model.specs.Safety.{Agree}
 use Rattle.ring_model.specs.declared.nodes.Durable.{Durable}
 use Rattle.ring_model.specs.declared.messages.Message.{Message}
-use Rattle.ring_model.specs.Runs.{elections}
 use Rattle.ring_model.proofs.Invariant.{As_leader, By_reply, Cut_by, HasAcked, History, IsHistory, IsNode, IsSealed, IsSent, Kept, Nothing_yet, Sealed_at, ok_reply}
 use Rattle.ring_model.proofs.Growth.{Grows, agree_less, agree_sym, agree_trans, cast_stays, chosen_stays, grow_keeps, grow_log, grow_sealed, sent_stays, won_stays}
 use Rattle.ring_model.proofs.Cover.{committed_in_book}
 use Rattle.ring_model.proofs.Following.{agree_same}
-use Rattle.ring_model.proofs.Leading.{led_log}
 
 abbrev pub with_message : History → Message → History
 with_message h m = record h { messages = h.messages ++ m ∷ [] }
@@ -23,15 +21,14 @@ pub record MayAnswer (h : History) (id : ℕ) (d : Durable) (m : Message) : Type
   pub answers : (s q : ℕ) → m.body ≡ ok_reply s q → (s ≡ d.term) × Agree q (h.book s) d.log
 
 module _ (ring : Layout) (h : History) (id : ℕ) (d : Durable) (m : Message) (k : IsHistory ring h) (n : IsNode ring h id d) (sends : IsSent ring h m.from m.to m.body) (may : MayAnswer h id d m) where
-
   sent_acks : (v s p : ℕ) → HasAcked (with_message h m) v s p → HasAcked h v s p ⊎ ((v ≡ id) × (s ≡ d.term) × Agree p (h.book s) d.log)
   sent_acks v s p (As_leader e in_e t by le) = inl (As_leader e in_e t by le)
   sent_acks v s p (By_reply x q in_x by body le) = elim (Contains-push_cases h.messages m x in_x) [
-      inl old ↦ inl (By_reply x q old by body le)
+    | inl old ↦ inl (By_reply x q old by body le)
     | inr new ↦
         let a = may.answers s q (ap (λ (w : Message). w.body) new ∙ body) in
         inr (sym by ∙ (ap (λ (w : Message). w.from) (sym new) ∙ may.from), a.0, agree_less p q (h.book s) d.log le a.1)
-    ]
+  ]
 
   pub sent_grows : Grows id h (with_message h m)
   sent_grows = record {
@@ -55,9 +52,9 @@ module _ (ring : Layout) (h : History) (id : ℕ) (d : Durable) (m : Message) (k
     cast_kept = n.cast_kept;
     votes_cast = n.votes_cast;
     dropped = λ c in_c by. elim (n.dropped c in_c by) [
-        inl kept ↦ inl kept
+      | inl kept ↦ inl kept
       | inr gone ↦ inr (record { at = gone.at; sealed = grow_sealed ring id h (with_message h m) sent_grows d.term d.term gone.at d.log (omega arith) gone.sealed; above = gone.above })
-      ];
+    ];
     between = n.between;
     acked_below = λ s p a. elim (sent_acks id s p a) [ inl old ↦ n.acked_below s p old | inr new ↦ omega (arith, new.1) ];
     acked = λ s p a. elim (sent_acks id s p a) [ inl old ↦ grow_keeps ring id h (with_message h m) sent_grows k d id s p old (n.acked s p old) | inr new ↦ Kept new.2 ];
@@ -71,9 +68,9 @@ module _ (ring : Layout) (h : History) (id : ℕ) (d : Durable) (m : Message) (k
     casts = λ c in_c. cast_stays ring id h (with_message h m) sent_grows k c in_c (k.casts c in_c);
     one_vote = k.one_vote;
     sent = λ x in_x. elim (Contains-push_cases h.messages m x in_x) [
-        inl old ↦ sent_stays ring id h (with_message h m) sent_grows x.from x.to x.body (k.sent x old)
+      | inl old ↦ sent_stays ring id h (with_message h m) sent_grows x.from x.to x.body (k.sent x old)
       | inr new ↦ subst (λ (w : Message). IsSent ring (with_message h m) w.from w.to w.body) new (sent_stays ring id h (with_message h m) sent_grows m.from m.to m.body sends)
-      ];
+    ];
     chosen = chosen_stays ring id h (with_message h m) sent_grows (length h.chosen) h.chosen k.chosen;
   }
 
@@ -84,12 +81,12 @@ sealed_agree ring h u t c b l m k (Sealed_at s p a i x v) (Nothing_yet z) le = r
 sealed_agree ring h u t c b l m k (Sealed_at s p a i x v) (Sealed_at r q e f y w) le =
     let w' = agree_less c b m (h.book r) le w in
     elim (cases_lt r s) [
-      inl lt ↦
-        let z = committed_in_book ring h k r q s x.election y x.led x.of_term (omega arith) in
-        agree_trans c l (h.book s) m v (agree_trans c (h.book s) (h.book r) m (agree_sym c (h.book r) (h.book s) (agree_less c q (h.book r) (h.book s) (omega arith) z)) (agree_sym c m (h.book r) w'))
-    | inr ge ↦
-        let z = committed_in_book ring h k s p r y.election x y.led y.of_term ge in
-        agree_trans c l (h.book s) m v (agree_trans c (h.book s) (h.book r) m (agree_less c p (h.book s) (h.book r) i z) (agree_sym c m (h.book r) w'))
+      | inl lt ↦
+          let z = committed_in_book ring h k r q s x.election y x.led x.of_term (omega arith) in
+          agree_trans c l (h.book s) m v (agree_trans c (h.book s) (h.book r) m (agree_sym c (h.book r) (h.book s) (agree_less c q (h.book r) (h.book s) (omega arith) z)) (agree_sym c m (h.book r) w'))
+      | inr ge ↦
+          let z = committed_in_book ring h k s p r y.election x y.led y.of_term ge in
+          agree_trans c l (h.book s) m v (agree_trans c (h.book s) (h.book r) m (agree_less c p (h.book s) (h.book r) i z) (agree_sym c m (h.book r) w'))
     ]
 
 -- the follower's commit count: the smaller of the message's count and the last matched place
@@ -100,9 +97,15 @@ sealed_from_book ring h u c j l le a (Sealed_at s p b i x v) = Sealed_at s p b (
 -- an entry is applied
 pub apply_keeps : (ring : Layout) (h : History) (id p : ℕ) (d : Durable) → IsNode ring h id d → IsSealed ring h d.term p d.log → IsNode ring h id (record d { applied = p })
 apply_keeps ring h id p d n s = record {
-  log = n.log; led_below = n.led_below; led_log = n.led_log; cast_below = n.cast_below; cast_kept = n.cast_kept; votes_cast = n.votes_cast;
+  log = n.log;
+  led_below = n.led_below;
+  led_log = n.led_log;
+  cast_below = n.cast_below;
+  cast_kept = n.cast_kept;
+  votes_cast = n.votes_cast;
   dropped = λ c in_c by. elim (n.dropped c in_c by) [ inl kept ↦ inl kept | inr gone ↦ inr (record { at = gone.at; sealed = gone.sealed; above = gone.above }) ];
-  between = n.between; acked_below = n.acked_below;
+  between = n.between;
+  acked_below = n.acked_below;
   acked = λ s p a. elim (n.acked s p a) [ Kept x ↦ Kept x | Cut_by u o le ↦ Cut_by u o le ];
   applied = s;
 }

@@ -1,5 +1,5 @@
 -- Handing leadership over: no step of it has an action, and its messages claim nothing, so role, commit count, grants and peers stay.
-use Rattle.std.proofs.Common.{◌≡◌, ℕ, ◌+◌, ◌-◌, ◌<◌, ◌≤◌, ◌==◌, ◌⊎◌, ◌&&◌, ◌||◌, [], ◌∷◌, ◌++◌, ◌∙◌, if◌then◌else◌, Bool, List, None, Option, Some, false, inl, inr, length, not, refl, subst, suc, true}
+use Rattle.std.proofs.Common.{◌≡◌, ℕ, ◌==◌, ◌&&◌, ◌||◌, [], ◌∷◌, ◌++◌, if◌then◌else◌, Bool, List, None, Option, Some, false, inl, inr, length, not, refl, subst, suc, true}
 use Rattle.std.specs.List.{Contains}
 use Rattle.ring_types.specs.Rings.{Layout, is_voter, votes}
 use Rattle.ring_types.specs.declared.members.Member.{Member}
@@ -70,20 +70,20 @@ mute_none id m in_m = absurd (none_contained m in_m)
 
 mute_cons : (id to : ℕ) (b : Body) (ms : List Message) → IsMute b → AreMute id ms → AreMute id (message id to b ∷ ms)
 mute_cons id to b ms x rest m in_m = elim (cons_cases (message id to b) ms m in_m) [
-    inl here ↦ subst (λ (w : Message). (w.from ≡ id) × IsMute w.body) here (refl, x)
+  | inl here ↦ subst (λ (w : Message). (w.from ≡ id) × IsMute w.body) here (refl, x)
   | inr there ↦ rest m there
-  ]
+]
 
 -- a step without actions that leaves what safety looks at, and whose messages claim nothing
 mute_row : (ring : Layout) (h : History) (id : ℕ) (d : Durable) (s o : Soft) (ms : List Message) (says : List Say) → IsHistory ring h → IsNode ring h id d → IsRunning ring h id d s
     → o.role ≡ s.role → o.commit ≡ s.commit → o.grants ≡ s.grants → o.peers ≡ s.peers → AreMute id ms → IsRow ring h id d s (stepped [] ms says o)
 mute_row ring h id d s o ms says k n r same count grants peers mute =
     plain_row ring h id d s o ms says k n r same count (same_role h id d s o s.role grants peers r.role)
-      (λ m in_m. let x = mute m in_m in record {
-        sent = mute_sent ring h m.from m.to m.body x.1;
-        from = x.0;
-        never = λ u v is. subst IsMute is x.1;
-      })
+    (λ m in_m. let x = mute m in_m in record {
+      sent = mute_sent ring h m.from m.to m.body x.1;
+      from = x.0;
+      never = λ u v is. subst IsMute is x.1;
+    })
 
 -- ---- a client's words
 pub transfer_row : (ring : Layout) (h : History) (id client target : ℕ) (d : Durable) (s : Soft) → IsHistory ring h → IsNode ring h id d → IsRunning ring h id d s → IsRow ring h id d s (ask_transfer ring id d s client target)
@@ -114,7 +114,7 @@ requests_mute id term round asked (m ∷ members) = go (m.id == id) (is_voter m.
   where
     go : (a b : Bool) → AreMute id (mock_requests id term round asked members)
         → AreMute id (if a then mock_requests id term round asked members
-            else (if b then message id m.id (body.MockRequest (record { term = term; round = round; last = asked })) ∷ mock_requests id term round asked members else mock_requests id term round asked members))
+        else (if b then message id m.id (body.MockRequest (record { term = term; round = round; last = asked })) ∷ mock_requests id term round asked members else mock_requests id term round asked members))
     go true b rest = rest
     go false true rest = mute_cons id m.id (body.MockRequest (record { term = term; round = round; last = asked })) (mock_requests id term round asked members) tt rest
     go false false rest = rest
@@ -152,7 +152,7 @@ with_answer_row : (ring : Layout) (h : History) (id : ℕ) (d : Durable) (s : So
     → IsRow ring h id d s (with_answer ring id d s leader round asked passed failed more_passed more_failed)
 with_answer_row ring h id d s leader round asked passed failed more_passed more_failed k n r =
     mute_row ring h id d s (record s { mock = mock.On leader round asked more_passed more_failed }) (deciding id leader d.term round (verdict ring leader id passed failed) (verdict ring leader id more_passed more_failed)) [] k n r refl refl refl refl
-      (deciding_mute id leader d.term round (verdict ring leader id passed failed) (verdict ring leader id more_passed more_failed))
+    (deciding_mute id leader d.term round (verdict ring leader id passed failed) (verdict ring leader id more_passed more_failed))
 
 count_row : (ring : Layout) (h : History) (id from : ℕ) (answer : MockReply) (d : Durable) (s : Soft) (leader : ℕ) (asked : Opid) (passed failed : List ℕ) → IsHistory ring h → IsNode ring h id d → IsRunning ring h id d s
     → IsRow ring h id d s (count_answer ring id d s from answer leader asked passed failed)

@@ -1,5 +1,5 @@
 -- One turn of a node, whole or cut, a crash or a restart: where its step owes nothing the invariant holds in the next world.
-use Rattle.std.proofs.Common.{◌≡◌, ℕ, ◌+◌, ◌-◌, ◌<◌, ◌≤◌, ◌==◌, ◌⊎◌, ◌&&◌, ◌||◌, [], ◌∷◌, ◌++◌, ◌∙◌, if◌then◌else◌, Bool, List, None, Some, ap, append_assoc, arith, false, inl, inr, length, refl, subst, suc, sym, take, true}
+use Rattle.std.proofs.Common.{◌≡◌, ℕ, ◌<◌, ◌≤◌, ◌==◌, [], ◌∷◌, ◌++◌, ◌∙◌, Bool, List, None, Some, ap, append_assoc, arith, false, inl, inr, length, refl, subst, suc, sym, take, true}
 use Rattle.std.proofs.lemmas.List.{append-nil, length-take-le}
 use Rattle.std.proofs.lemmas.Bool.{cases_eq}
 use Rattle.std.proofs.lemmas.Bool.Decides.{nat_tests}
@@ -60,9 +60,14 @@ sends_hold : (ring : Layout) (id : ℕ) (d : Durable) (h g : History) (ms : List
     → IsHistory ring g × IsNode ring g id d × Grows id h g × (g.messages ≡ h.messages ++ ms) × (g.chosen ≡ h.chosen) × (g.elections ≡ h.elections)
 sends_hold ring id d h g [] k n Sent_all = (k, n, grows_refl id h, sym (append-nil h.messages), refl, refl)
 sends_hold ring id d h g (m ∷ ms) k n (Sends_on sends may rest) =
-    let x = sends_hold ring id d (with_message h m) g ms (sent_history ring h id d m k n sends may) (sent_node ring h id d m k n sends may) rest in
-    (x.0, x.1, grows_trans id h (with_message h m) g (sent_grows ring h id d m k n sends may) x.2,
-     x.3 ∙ append_assoc h.messages (m ∷ []) ms, x.4, x.5)
+    let x = sends_hold ring id d (with_message h m) g ms (sent_history ring h id d m k n sends may) (sent_node ring h id d m k n sends may) rest in (
+      x.0,
+      x.1,
+      grows_trans id h (with_message h m) g (sent_grows ring h id d m k n sends may) x.2,
+      x.3 ∙ append_assoc h.messages (m ∷ []) ms,
+      x.4,
+      x.5,
+    )
 
 -- ---- the chosen list grows
 abbrev pub with_chosen : History → List Entry → History
@@ -191,34 +196,40 @@ turn_keeps ring w h id n ms says cuts held k t =
     let co : Grows (suc id) x (with_chosen x l) = chosen_grows (suc id) x l long.0 in
     let all : Grows id h (with_chosen x l) = grows_trans id h x (with_chosen x l) t.grows cg in
     let is : x.chosen ≡ w.chosen = t.chosen ∙ k.chosen in
-    record { after = with_chosen x l; world = record {
-      messages = t.messages;
-      chosen = ap (λ (c : List Entry). grown c n) is;
-      history = chosen_history ring id x l long.0 t.history (grow_sealed_list ring x n.durable.term n t.inside t.reached t.history.chosen);
-      nodes = λ j. elim (cases_eq j id) [
-          inl same ↦ subst (λ (i : ℕ). IsNode ring (with_chosen x l) i (with_node w.nodes id n i).durable) (sym same)
+    record {
+      after = with_chosen x l;
+      world = record {
+        messages = t.messages;
+        chosen = ap (λ (c : List Entry). grown c n) is;
+        history = chosen_history ring id x l long.0 t.history (grow_sealed_list ring x n.durable.term n t.inside t.reached t.history.chosen);
+        nodes = λ j. elim (cases_eq j id) [
+          | inl same ↦ subst (λ (i : ℕ). IsNode ring (with_chosen x l) i (with_node w.nodes id n i).durable) (sym same)
               (subst (λ (m : Node). IsNode ring (with_chosen x l) id m.durable) (sym (node_here w.nodes id n))
-                (others_stay ring (suc id) x (with_chosen x l) co t.history id n.durable (λ e. omega arith) t.node))
-        | inr other ↦ subst (λ (m : Node). IsNode ring (with_chosen x l) j m.durable) (sym (node_other w.nodes id j n other))
+              (others_stay ring (suc id) x (with_chosen x l) co t.history id n.durable (λ e. omega arith) t.node))
+          | inr other ↦ subst (λ (m : Node). IsNode ring (with_chosen x l) j m.durable) (sym (node_other w.nodes id j n other))
               (others_stay ring id h (with_chosen x l) all k.history j (w.nodes j).durable other (k.nodes j))
         ];
-      running = λ j s up. elim (cases_eq j id) [
-          inl same ↦
-            let up' : (with_node w.nodes id n id).soft ≡ Some s = subst (λ (i : ℕ). (with_node w.nodes id n i).soft ≡ Some s) same up in
-            let so : n.soft ≡ Some s = sym (ap (λ (m : Node). m.soft) (node_here w.nodes id n)) ∙ up' in
-            subst (λ (i : ℕ). IsRunning ring (with_chosen x l) i (with_node w.nodes id n i).durable s) (sym same)
+        running = λ j s up. elim (cases_eq j id) [
+          | inl same ↦
+              let up' : (with_node w.nodes id n id).soft ≡ Some s = subst (λ (i : ℕ). (with_node w.nodes id n i).soft ≡ Some s) same up in
+              let so : n.soft ≡ Some s = sym (ap (λ (m : Node). m.soft) (node_here w.nodes id n)) ∙ up' in
+              subst (λ (i : ℕ). IsRunning ring (with_chosen x l) i (with_node w.nodes id n i).durable s) (sym same)
               (subst (λ (m : Node). IsRunning ring (with_chosen x l) id m.durable s) (sym (node_here w.nodes id n)) (runs s so l long co))
-        | inr other ↦
-            let was : (w.nodes j).soft ≡ Some s = sym (ap (λ (m : Node). m.soft) (node_other w.nodes id j n other)) ∙ up in
-            subst (λ (m : Node). IsRunning ring (with_chosen x l) j m.durable s) (sym (node_other w.nodes id j n other))
+          | inr other ↦
+              let was : (w.nodes j).soft ≡ Some s = sym (ap (λ (m : Node). m.soft) (node_other w.nodes id j n other)) ∙ up in
+              subst (λ (m : Node). IsRunning ring (with_chosen x l) j m.durable s) (sym (node_other w.nodes id j n other))
               (running_stays ring id j h (with_chosen x l) (w.nodes j).durable s all other (k.running j s was))
         ];
-      applied = λ j. elim (cases_eq j id) [
-          inl same ↦ subst (λ (i : ℕ). (with_node w.nodes id n i).durable.applied ≤ length l) (sym same)
+        applied = λ j. elim (cases_eq j id) [
+          | inl same ↦ subst (λ (i : ℕ). (with_node w.nodes id n i).durable.applied ≤ length l) (sym same)
               (subst (λ (m : Node). m.durable.applied ≤ length l) (sym (node_here w.nodes id n)) (omega (arith, t.applied, long.1)))
-        | inr other ↦ subst (λ (m : Node). m.durable.applied ≤ length l) (sym (node_other w.nodes id j n other)) (omega (arith, k.applied j, long.0, ap length t.chosen))
+          | inr other ↦ subst (λ (m : Node). m.durable.applied ≤ length l) (sym (node_other w.nodes id j n other)) (omega (arith, k.applied j, long.0, ap length t.chosen))
         ];
-    }; grows = all; elections = t.elections; chosen = subst (λ (c : List Entry). Agree (length c) c (grown c n)) is (grow_agrees ring x n.durable.term n t.history t.inside t.reached); }
+      };
+      grows = all;
+      elections = t.elections;
+      chosen = subst (λ (c : List Entry). Agree (length c) c (grown c n)) is (grow_agrees ring x n.durable.term n t.history t.inside t.reached);
+    }
   where
     runs : (s : Soft) → n.soft ≡ Some s → (l : List Entry) → (length t.after.chosen ≤ length l) × (reach n ≤ length l) → Grows (suc id) t.after (with_chosen t.after l) → IsRunning ring (with_chosen t.after l) id n.durable s
     runs s so l long co =
@@ -303,8 +314,17 @@ pub down_keeps : (ring : Layout) (w : WorldState) (h : History) (id : ℕ) (e : 
 down_keeps ring w h id e cuts same k =
     let n = same_node ring h id (w.nodes id).durable e same (k.nodes id) in
     turn_keeps ring w h id (record { durable = e; soft = None }) [] [] cuts [] k (record {
-      after = h; history = k.history; node = n; grows = grows_refl id h; messages = k.messages ∙ sym (append-nil w.messages); chosen = refl; elections = sym (append-nil h.elections);
-      reached = n.applied; inside = seal_within ring h e.term e.applied e.log n.applied; applied = omega arith; role = λ s so. absurd cc;
+      after = h;
+      history = k.history;
+      node = n;
+      grows = grows_refl id h;
+      messages = k.messages ∙ sym (append-nil w.messages);
+      chosen = refl;
+      elections = sym (append-nil h.elections);
+      reached = n.applied;
+      inside = seal_within ring h e.term e.applied e.log n.applied;
+      applied = omega arith;
+      role = λ s so. absurd cc;
     })
 
 -- a restart
@@ -314,7 +334,15 @@ restart_keeps ring w h id k =
     let d = (w.nodes id).durable in
     let n = same_node ring h id d (recover d) (record { term = refl; votes = refl; log = refl; applied = refl }) (k.nodes id) in
     turn_keeps ring w h id (record { durable = recover d; soft = Some (fresh_soft d) }) [] [] [] [] k (record {
-      after = h; history = k.history; node = n; grows = grows_refl id h; messages = k.messages ∙ sym (append-nil w.messages); chosen = refl; elections = sym (append-nil h.elections);
-      reached = (k.nodes id).applied; inside = seal_within ring h d.term d.applied d.log (k.nodes id).applied; applied = omega arith;
+      after = h;
+      history = k.history;
+      node = n;
+      grows = grows_refl id h;
+      messages = k.messages ∙ sym (append-nil w.messages);
+      chosen = refl;
+      elections = sym (append-nil h.elections);
+      reached = (k.nodes id).applied;
+      inside = seal_within ring h d.term d.applied d.log (k.nodes id).applied;
+      applied = omega arith;
       role = λ s so. let is : fresh_soft d ≡ s = cc in subst (λ (o : Soft). HasRole h id (recover d) o o.role) is tt;
     })

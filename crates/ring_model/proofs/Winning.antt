@@ -1,5 +1,5 @@
 -- What a voter reports, how a grant joins a candidacy, when a candidate may lead, and when a leader's count of holders commits.
-use Rattle.std.proofs.Common.{◌≡◌, ℕ, ◌+◌, ◌-◌, ◌<◌, ◌≤◌, ◌==◌, ◌⊎◌, ◌&&◌, ◌||◌, [], ◌∷◌, ◌++◌, ◌∙◌, if◌then◌else◌, List, ap, arith, inl, inr, length, refl, subst, suc, sym, true, zero}
+use Rattle.std.proofs.Common.{◌≡◌, ℕ, ◌<◌, ◌≤◌, ◌⊎◌, [], ◌∷◌, ◌++◌, ◌∙◌, List, ap, arith, inl, inr, length, refl, subst, suc, sym, true, zero}
 use Rattle.std.proofs.lemmas.List.Elements.{Contains-push_cases}
 use Rattle.std.specs.List.{Contains}
 use Rattle.ring_types.specs.declared.entries.Entry.{Entry}
@@ -29,7 +29,6 @@ positive zero l t is some = absurd (omega arith)
 positive (suc p) l t is some = omega arith
 
 module _ (ring : Layout) (h : History) (id : ℕ) (d : Durable) (k : IsHistory ring h) (n : IsNode ring h id d) where
-
   -- a voter whose vote of its present term is for x reports all that it cast in between
   pub reports_all : (c : Cast) (x : ℕ) (q : Opid) → Contains h.casts c → c.voter ≡ id → c.vote.term ≡ d.term → c.vote.candidate ≡ x → c.asked ≡ q
       → IsGrant h x d.term q (record { voter = id; votes = votes_between q.term d.term d.votes })
@@ -41,8 +40,8 @@ module _ (ring : Layout) (h : History) (id : ℕ) (d : Durable) (k : IsHistory r
     for = for;
     asked = asked;
     report = λ e in_e by_e low high.
-      let a = ap (λ (o : Opid). o.term) asked in
-      filter_keeps (lies_between q.term d.term) d.votes e.vote
+        let a = ap (λ (o : Opid). o.term) asked in
+        filter_keeps (lies_between q.term d.term) d.votes e.vote
         (n.between c e in_c in_e by by_e t (omega arith) (omega arith)) (is_between q.term d.term e.vote low high);
   }
 
@@ -61,7 +60,7 @@ module _ (ring : Layout) (h : History) (id : ℕ) (d : Durable) (k : IsHistory r
   -- a candidate whose grants cover what they make it need may lead
   pub candidate_leads : (gs : List Grant) → IsCandidate h id d gs → wins ring (last d.log).term (region_at ring.home d.log (length d.log)) (region_of ring id) d.term gs ≡ true
       → MayLead ring h id d (record { term = d.term; node = id; base = d.log; grants = gs })
-          (record { opid = record { term = d.term; position = suc (length d.log) }; region = region_of ring id; payload = payload.NoOp })
+      (record { opid = record { term = d.term; position = suc (length d.log) }; region = region_of ring id; payload = payload.NoOp })
   candidate_leads gs x won = record {
     election = record {
       won = won;
@@ -85,7 +84,7 @@ module _ (ring : Layout) (h : History) (id : ℕ) (d : Durable) (k : IsHistory r
     below = x.below;
     not_led = x.not_led;
     grants = λ r in_r. elim (Contains-push_cases gs g r in_r) [
-        inl old ↦ x.grants r old
+      | inl old ↦ x.grants r old
       | inr new ↦
           -- the candidate asked once in this term, so the voter was asked with the candidate's last opid
           let s = (k.casts y.cast y.was_cast).self in
@@ -93,7 +92,7 @@ module _ (ring : Layout) (h : History) (id : ℕ) (d : Durable) (k : IsHistory r
           let same : s.0 ≡ me.0 = k.one_vote s.0 me.0 s.1 me.1 (s.2 ∙ (y.for ∙ sym me.2)) (ap (λ (v : Vote). v.term) s.3 ∙ (y.of_term ∙ sym me.4)) in
           let is : q ≡ last d.log = sym y.asked ∙ (sym s.4 ∙ (ap (λ (e : Cast). e.asked) same ∙ me.5)) in
           subst (IsGrant h id d.term (last d.log)) new (subst (λ (o : Opid). IsGrant h id d.term o g) is y)
-      ];
+    ];
   }
 
   -- a leader's place of its own term that a commit quorum has is committed
@@ -112,9 +111,9 @@ module _ (ring : Layout) (h : History) (id : ℕ) (d : Durable) (k : IsHistory r
         quorum = quorum;
         reached = subst (λ (v : ℕ). commits ring (region_of ring v) quorum ≡ true) (sym x.by) reached;
         acked = λ v in_v. elim (who v in_v) [
-            inl me ↦ As_leader x.election x.led x.of_term (x.by ∙ sym me) inside
+          | inl me ↦ As_leader x.election x.led x.of_term (x.by ∙ sym me) inside
           | inr peer ↦
               let y = x.matched peer.0 peer.1 (omega (arith, peer.3, positive p d.log d.term own some)) in
               subst (λ (w : ℕ). HasAcked h w d.term p) peer.2 (acked_less h peer.0.node d.term p peer.0.matched peer.3 y)
-          ];
+        ];
       }) (subst (λ (b : List Entry). Agree p d.log b) book (record { left = le; right = le; same = refl }))

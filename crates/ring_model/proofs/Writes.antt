@@ -1,5 +1,5 @@
 -- A leader that adds an entry of its own, for a write or a rotate: its book goes on with it, and its commit count rises as the holders allow.
-use Rattle.std.proofs.Common.{◌≡◌, ℕ, ◌+◌, ◌-◌, ◌<◌, ◌≤◌, ◌==◌, ◌⊎◌, ◌&&◌, ◌||◌, [], ◌∷◌, ◌++◌, ◌∙◌, if◌then◌else◌, List, None, Option, Some, ap, arith, length, length-append, refl, subst, suc, sym}
+use Rattle.std.proofs.Common.{◌≡◌, ℕ, ◌≤◌, [], ◌∷◌, ◌++◌, ◌∙◌, List, None, Option, Some, ap, arith, length, length-append, refl, subst, suc, sym}
 use Rattle.ring_types.specs.declared.values.Change.{Change}
 use Rattle.ring_types.specs.declared.entries.Entry.{Entry}
 use Rattle.ring_types.specs.Rings.{Layout, region_of}
@@ -14,7 +14,6 @@ use Rattle.ring_model.specs.Steps.{advance, own_entry}
 use Rattle.ring_model.specs.Actions.{all_done, done}
 use Rattle.ring_model.specs.Writes.{awaits, refused, rotate, rotate_refusal, rotate_step, write, write_entry, write_entry_step, write_refusal, write_txn}
 use Rattle.ring_model.specs.Nodes.{is_leader}
-use Rattle.ring_model.specs.Dispatch.{step}
 use Rattle.ring_model.specs.declared.effects.Action.TheVariants as action
 use Rattle.ring_types.specs.declared.entries.Payload.TheVariants as payload
 use Rattle.ring_model.specs.declared.effects.What.TheVariants as what
@@ -37,20 +36,26 @@ add_row ring h id d s t first x says k n r role same_role same_count same_peers 
     let l : IsLeader h id d s = subst (λ (o : Role). HasRole h id d s o) role r.role in
     let before = path_keeps ring id h h d first k n q.path in
     let may : MayAdd ring h id e l.election x = record {
-          led = l.led; by = l.by; of_term = l.of_term ∙ sym same.term; x_term = x_term ∙ sym same.term; x_region = x_region; x_place = x_place ∙ ap (λ (w : List Entry). suc (length w)) (sym same.log) } in
+      led = l.led;
+      by = l.by;
+      of_term = l.of_term ∙ sym same.term;
+      x_term = x_term ∙ sym same.term;
+      x_region = x_region;
+      x_place = x_place ∙ ap (λ (w : List Entry). suc (length w)) (sym same.log);
+    } in
     let m : History = with_book h e.term (e.log ++ x ∷ []) in
     let step : Path ring id h e (action.Append (x ∷ []) ∷ []) m = Goes_on (Adds l.election x refl may refl) Ends in
     let a = path_keeps ring id h m e (action.Append (x ∷ []) ∷ []) k before.node step in
     let j = done_join d first (action.Append (x ∷ []) ∷ []) in
     let f : Durable = done e (action.Append (x ∷ [])) in
     let sealed : IsSealed ring h e.term t.commit e.log = subst (λ (c : ℕ). IsSealed ring h e.term c e.log) (sym same_count)
-          (subst (λ (u : ℕ). IsSealed ring h u s.commit e.log) (sym same.term) (subst (λ (w : List Entry). IsSealed ring h d.term s.commit w) (sym same.log) r.sealed)) in
+    (subst (λ (u : ℕ). IsSealed ring h u s.commit e.log) (sym same.term) (subst (λ (w : List Entry). IsSealed ring h d.term s.commit w) (sym same.log) r.sealed)) in
     advance_row ring h m id d s t (first ++ (action.Append (x ∷ []) ∷ [])) says (path_join ring id h h m d first (action.Append (x ∷ []) ∷ []) q.path (Goes_on (Adds l.election x refl may refl) Ends)) a.history
-      (subst (λ (w : Durable). IsNode ring m id w) (sym j) a.node) (same_role ∙ role)
-      (subst (λ (w : Durable). IsLeader m id w t) (sym j) (leader_at m id d f s t same.term (omega (arith, ap length same.log, length-append e.log (x ∷ []))) same_peers (leader_stays ring id h m a.grows id d s l)))
-      (subst (λ (w : Durable). IsSealed ring m w.term t.commit w.log) (sym j) (seal_longer ring id h m e.term t.commit e.log (x ∷ []) a.grows sealed))
-      (subst (λ (w : Durable). w.applied ≤ t.commit) (sym j) (omega (arith, same.applied, same_count, r.applied)))
-      (Led_on (ap is_leader role) (quiet_join ring id h h m d first (action.Append (x ∷ []) ∷ []) q.path (Goes_on (Adds l.election x refl may refl) Ends) q.quiet refl))
+    (subst (λ (w : Durable). IsNode ring m id w) (sym j) a.node) (same_role ∙ role)
+    (subst (λ (w : Durable). IsLeader m id w t) (sym j) (leader_at m id d f s t same.term (omega (arith, ap length same.log, length-append e.log (x ∷ []))) same_peers (leader_stays ring id h m a.grows id d s l)))
+    (subst (λ (w : Durable). IsSealed ring m w.term t.commit w.log) (sym j) (seal_longer ring id h m e.term t.commit e.log (x ∷ []) a.grows sealed))
+    (subst (λ (w : Durable). w.applied ≤ t.commit) (sym j) (omega (arith, same.applied, same_count, r.applied)))
+    (Led_on (ap is_leader role) (quiet_join ring id h h m d first (action.Append (x ∷ []) ∷ []) q.path (Goes_on (Adds l.election x refl may refl) Ends) q.quiet refl))
 
 pub refused_row : (ring : Layout) (h : History) (id client : ℕ) (c : Cause) (d : Durable) (s : Soft) → IsRunning ring h id d s → IsRow ring h id d s (refused s client c)
 refused_row ring h id client c d s r = record { acted = h; path = Ends; sent = h; sends = Sent_all; role = r.role; sealed = r.sealed; applied = r.applied; holding = stays_holding ring id h d s s refl }
