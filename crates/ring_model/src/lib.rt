@@ -7,6 +7,7 @@
 #![tactic(auto)]
 
 mod effects;
+mod laws;
 mod messages;
 mod nodes;
 mod worlds;
@@ -19,6 +20,11 @@ pub use effects::Say;
 pub use effects::Step;
 pub use effects::Tear;
 pub use effects::What;
+pub use laws::law_commit_meets_cover;
+pub use laws::law_cover;
+pub use laws::law_covers_meet;
+pub use laws::law_need;
+pub use laws::law_safe;
 pub use messages::Append;
 pub use messages::AppendReply;
 pub use messages::Body;

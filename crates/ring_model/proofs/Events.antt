@@ -1,0 +1,274 @@
+-- Each event keeps the invariant: it makes at most one node act, whose step owes nothing, or it moves a cursor alone; and it holds just the elections that the definition finds.
+use Rattle.std.proofs.Common.{◌≡◌, ℕ, ◌≤◌, [], ◌∷◌, ◌++◌, ◌∙◌, if◌then◌else◌, Bool, List, None, Option, Some, ap, append_assoc, arith, false, length, refl, subst, suc, sym, take, true, zero}
+use Rattle.std.proofs.lemmas.List.{append-nil}
+use Rattle.std.specs.List.{Contains}
+use Rattle.ring_types.specs.declared.entries.Entry.{Entry}
+use Rattle.ring_types.specs.Rings.{Layout, is_member}
+use Rattle.ring_types.specs.declared.entries.Opid.{Opid}
+use Rattle.ring_model.specs.Safety.{Agree}
+use Rattle.ring_model.specs.Worlds.{ComeUp, Completion, Cut, GoDown, Handle, Task, Whole, WorldState, at_node, ended, first_world, given, handled, line_step, member_turn, message_at, moved, next_given, next_to, passed, restart_actions, skipped, turn, world_step}
+use Rattle.ring_model.specs.declared.nodes.Durable.{Durable}
+use Rattle.ring_model.specs.Runs.{Election, Move, acted_elections, acted_tear, acting, acts_at, acts_on, acts_on_number, event_elections, held_at, held_by, tear_at}
+use Rattle.ring_model.specs.declared.messages.Input.{Input}
+use Rattle.ring_model.specs.declared.worlds.Line.{Line}
+use Rattle.ring_model.specs.declared.messages.Message.{Message}
+use Rattle.ring_model.specs.Nodes.{Node, empty_durable, fresh_soft, stray_opids}
+use Rattle.ring_model.specs.declared.nodes.Soft.{Soft}
+use Rattle.ring_model.specs.Actions.{all_done}
+use Rattle.ring_model.specs.Dispatch.{step}
+use Rattle.ring_model.specs.declared.effects.Action.TheVariants as action
+use Rattle.ring_model.specs.declared.messages.Input.TheVariants as input
+use Rattle.ring_model.specs.declared.worlds.Line.TheVariants as line
+use Rattle.ring_model.proofs.Lists.{none_contained}
+use Rattle.ring_model.proofs.Invariant.{As_leader, By_reply, HasAcked, History, IsNode, IsRunning, IsSealed, Nothing_yet}
+use Rattle.ring_model.proofs.Growth.{agree_less, agree_trans, grow_sealed}
+use Rattle.ring_model.proofs.Following.{agree_same}
+use Rattle.ring_model.proofs.Paths.{SameLog}
+use Rattle.ring_model.proofs.Turns.{IsWorld, TurnedTo, cut_keeps, down_keeps, restart_keeps, whole_keeps}
+use Rattle.ring_model.proofs.Dispatch.{IsGiven, step_row, step_whole}
+
+-- from a world with a history: the invariant holds after, nothing that was committed or led is lost, and these elections were held
+pub record Carried (ring : Layout) (w v : WorldState) (h : History) (held : List Election) : Type 0 where
+  pub after : History
+  pub world : IsWorld ring v after
+  pub chosen : Agree (length w.chosen) w.chosen v.chosen
+  pub led : (e : Election) → Contains h.elections e → Contains after.elections e
+  pub sealed : (u c : ℕ) (l : List Entry) → IsSealed ring h u c l → IsSealed ring after u c l
+  pub elections : after.elections ≡ h.elections ++ held
+
+by_turn : (ring : Layout) (w v : WorldState) (h : History) (id : ℕ) (held : List Election) → TurnedTo ring w v h id held → Carried ring w v h held
+by_turn ring w v h id held x = record {
+  after = x.after;
+  world = x.world;
+  chosen = x.chosen;
+  led = x.grows.elections;
+  sealed = λ u c l y. grow_sealed ring id h x.after x.grows u u c l (omega arith) y;
+  elections = x.elections;
+}
+
+pub carried_join : (ring : Layout) (w v z : WorldState) (h : History) (a b : List Election) (x : Carried ring w v h a) → Carried ring v z x.after b → Carried ring w z h (a ++ b)
+carried_join ring w v z h a b x y = record {
+  after = y.after;
+  world = y.world;
+  chosen = agree_trans (length w.chosen) w.chosen v.chosen z.chosen x.chosen (agree_less (length w.chosen) (length v.chosen) v.chosen z.chosen x.chosen.right y.chosen);
+  led = λ e in_e. y.led e (x.led e in_e);
+  sealed = λ u c l q. y.sealed u c l (x.sealed u c l q);
+  elections = y.elections ∙ (ap (λ (e : List Election). e ++ b) x.elections ∙ append_assoc h.elections a b);
+}
+
+-- where nodes, messages and the chosen sequence stay
+pub same_world : (ring : Layout) (w v : WorldState) (h : History) → v.nodes ≡ w.nodes → v.messages ≡ w.messages → v.chosen ≡ w.chosen → IsWorld ring w h → IsWorld ring v h
+same_world ring w v h nodes messages chosen k = record {
+  messages = k.messages ∙ sym messages;
+  chosen = k.chosen ∙ sym chosen;
+  history = k.history;
+  nodes = λ id. subst (λ (f : ℕ → Node). IsNode ring h id (f id).durable) (sym nodes) (k.nodes id);
+  running = subst (λ (f : ℕ → Node). (id : ℕ) (s : Soft) → (f id).soft ≡ Some s → IsRunning ring h id (f id).durable s) (sym nodes) k.running;
+  applied = λ id. subst (λ (f : ℕ → Node). (f id).durable.applied ≤ length h.chosen) (sym nodes) (k.applied id);
+}
+
+-- an event that makes no node act, from a world that differs in its cursors alone
+passed_over : (ring : Layout) (w : WorldState) (h : History) → IsWorld ring w h → Carried ring w (passed w) h []
+passed_over ring w h k = record {
+  after = h;
+  world = same_world ring w (passed w) h refl refl refl k;
+  chosen = agree_same (length w.chosen) w.chosen (omega arith);
+  led = λ e in_e. in_e;
+  sealed = λ u c l x. x;
+  elections = sym (append-nil h.elections);
+}
+
+-- ---- what a task does
+restart_cut : (d : Durable) (count : ℕ) → SameLog d (all_done d (take count (restart_actions d)))
+restart_cut d count = go (stray_opids d) count
+  where
+    go : (o : List Opid) (n : ℕ) → SameLog d (all_done d (take n (elim o [ [] ↦ [] | o ∷ opids ↦ action.DropPairs (o ∷ opids) ∷ [] ])))
+    go [] zero = record { term = refl; votes = refl; log = refl; applied = refl }
+    go [] (suc n) = record { term = refl; votes = refl; log = refl; applied = refl }
+    go (o ∷ opids) zero = record { term = refl; votes = refl; log = refl; applied = refl }
+    go (o ∷ opids) (suc zero) = record { term = refl; votes = refl; log = refl; applied = refl }
+    go (o ∷ opids) (suc (suc n)) = record { term = refl; votes = refl; log = refl; applied = refl }
+
+handled_over : (ring : Layout) (w : WorldState) (h : History) (id : ℕ) (i : Input) (completion : Completion) (o : Option Soft) → (w.nodes id).soft ≡ o → IsWorld ring w h → IsGiven w.messages id i
+    → Carried ring w (handled ring w id i completion (w.nodes id).durable o) h (held_at ring id (w.nodes id).durable o (Handle i) completion)
+handled_over ring w h id i completion None up k given = passed_over ring w h k
+handled_over ring w h id i Whole (Some s) up k given =
+    by_turn ring w (ended w id (w.nodes id).durable (step ring id (w.nodes id).durable s i) Whole) h id (held_by id (w.nodes id).durable s (step ring id (w.nodes id).durable s i) Whole)
+    (whole_keeps ring w h id s (step ring id (w.nodes id).durable s i) k
+    (step_row ring h id (w.nodes id).durable s i k.history (k.nodes id) (k.running id s up) (subst (λ (ms : List Message). IsGiven ms id i) (sym k.messages) given)))
+handled_over ring w h id i (Cut count) (Some s) up k given =
+    by_turn ring w (ended w id (w.nodes id).durable (step ring id (w.nodes id).durable s i) (Cut count)) h id (held_by id (w.nodes id).durable s (step ring id (w.nodes id).durable s i) (Cut count))
+    (cut_keeps ring w h id count s (step ring id (w.nodes id).durable s i) k
+    (step_row ring h id (w.nodes id).durable s i k.history (k.nodes id) (k.running id s up) (subst (λ (ms : List Message). IsGiven ms id i) (sym k.messages) given)))
+
+-- a message that a task gives was sent, and to this node
+abbrev pub MayTake : List Message → ℕ → Task → Type 0
+MayTake messages id (Handle i) = IsGiven messages id i
+MayTake messages id GoDown = Unit {0}
+MayTake messages id ComeUp = Unit {0}
+
+down_holds_none : (ring : Layout) (id : ℕ) (d : Durable) (o : Option Soft) (completion : Completion) → held_at ring id d o GoDown completion ≡ []
+down_holds_none ring id d None completion = refl
+down_holds_none ring id d (Some s) completion = refl
+
+up_holds_none : (ring : Layout) (id : ℕ) (d : Durable) (o : Option Soft) (completion : Completion) → held_at ring id d o ComeUp completion ≡ []
+up_holds_none ring id d None completion = refl
+up_holds_none ring id d (Some s) completion = refl
+
+turn_over : (ring : Layout) (w : WorldState) (h : History) (id : ℕ) (task : Task) (completion : Completion) → IsWorld ring w h → MayTake w.messages id task
+    → Carried ring w (turn ring w id task completion) h (held_at ring id (w.nodes id).durable (w.nodes id).soft task completion)
+turn_over ring w h id (Handle i) completion k given = handled_over ring w h id i completion (w.nodes id).soft refl k given
+turn_over ring w h id GoDown completion k given =
+    subst (λ (e : List Election). Carried ring w (turn ring w id GoDown completion) h e) (sym (down_holds_none ring id (w.nodes id).durable (w.nodes id).soft completion))
+    (by_turn ring w (turn ring w id GoDown completion) h id [] (down_keeps ring w h id (w.nodes id).durable [] (record { term = refl; votes = refl; log = refl; applied = refl }) k))
+turn_over ring w h id ComeUp Whole k given =
+    subst (λ (e : List Election). Carried ring w (turn ring w id ComeUp Whole) h e) (sym (up_holds_none ring id (w.nodes id).durable (w.nodes id).soft Whole))
+    (by_turn ring w (turn ring w id ComeUp Whole) h id [] (restart_keeps ring w h id k))
+turn_over ring w h id ComeUp (Cut count) k given =
+    subst (λ (e : List Election). Carried ring w (turn ring w id ComeUp (Cut count)) h e) (sym (up_holds_none ring id (w.nodes id).durable (w.nodes id).soft (Cut count)))
+    (by_turn ring w (turn ring w id ComeUp (Cut count)) h id []
+    (down_keeps ring w h id (all_done (w.nodes id).durable (take count (restart_actions (w.nodes id).durable))) (count ∷ []) (restart_cut (w.nodes id).durable count) k))
+
+-- only members act
+member_over : (ring : Layout) (w : WorldState) (h : History) (id : ℕ) (task : Task) (completion : Completion) → IsWorld ring w h → MayTake w.messages id task
+    → Carried ring w (member_turn ring w id task completion) h (acted_elections ring w completion (Some (id, task)))
+member_over ring w h id task completion k given = go (is_member ring id)
+  where
+    go : (b : Bool) → Carried ring w (if b then turn ring w id task completion else passed w) h (if b then held_at ring id (w.nodes id).durable (w.nodes id).soft task completion else [])
+    go true = turn_over ring w h id task completion k given
+    go false = passed_over ring w h k
+
+-- ---- a line
+in_number : (ms : List Message) (k : ℕ) (m : Message) → message_at ms k ≡ Some m → Contains ms m
+in_number ms zero m is = absurd cc
+in_number [] (suc k) m is = absurd cc
+in_number (x ∷ ms) (suc zero) m is = (zero, omega arith, cc)
+in_number (x ∷ ms) (suc (suc k)) m is = let y = in_number ms (suc k) m is in (suc y.0, omega (arith, y.1), y.2)
+
+given_over : (ring : Layout) (w : WorldState) (h : History) (completion : Completion) (number : ℕ) (o : Option Message) → message_at w.messages number ≡ o → IsWorld ring w h
+    → Carried ring w (given ring w completion o) h (acted_elections ring w completion (acts_on o))
+given_over ring w h completion number None is k = passed_over ring w h k
+given_over ring w h completion number (Some m) is k = member_over ring w h m.to (Handle (input.Deliver m)) completion k (in_number w.messages number m is, refl)
+
+-- a moved cursor changes nothing that is said of a world
+from_moved : (ring : Layout) (w z : WorldState) (h : History) (id number : ℕ) (held : List Election) → Carried ring (moved w id number) z h held → Carried ring w z h held
+from_moved ring w z h id number held x = record { after = x.after; world = x.world; chosen = x.chosen; led = x.led; sealed = x.sealed; elections = x.elections }
+
+acts_same : (ring : Layout) (w : WorldState) (id number : ℕ) (completion : Completion) (o : Option (ℕ × Task)) → acted_elections ring (moved w id number) completion o ≡ acted_elections ring w completion o
+acts_same ring w id number completion None = refl
+acts_same ring w id number completion (Some a) = refl
+
+next_over : (ring : Layout) (w : WorldState) (h : History) (id : ℕ) (completion : Completion) (o : Option ℕ) → IsWorld ring w h
+    → Carried ring w (next_given ring w id completion o) h (acted_elections ring w completion (acts_on_number w o))
+next_over ring w h id completion None k = passed_over ring w h k
+next_over ring w h id completion (Some number) k =
+    from_moved ring w (next_given ring w id completion (Some number)) h id number (acted_elections ring w completion (acts_on_number w (Some number)))
+    (subst (λ (e : List Election). Carried ring (moved w id number) (next_given ring w id completion (Some number)) h e) (acts_same ring w id number completion (acts_on (message_at w.messages number)))
+    (given_over ring (moved w id number) h completion number (message_at w.messages number) refl (same_world ring w (moved w id number) h refl refl refl k)))
+
+skipped_over : (ring : Layout) (w : WorldState) (h : History) (id : ℕ) (o : Option ℕ) → IsWorld ring w h → Carried ring w (skipped w id o) h []
+skipped_over ring w h id None k = passed_over ring w h k
+skipped_over ring w h id (Some number) k = from_moved ring w (skipped w id (Some number)) h id number [] (passed_over ring (moved w id number) h (same_world ring w (moved w id number) h refl refl refl k))
+
+at_over : (ring : Layout) (w : WorldState) (h : History) (id : ℕ) (i : Input) (completion : Completion) → IsWorld ring w h → Carried ring w (at_node ring w id i completion) h (acted_elections ring w completion (acts_at id i))
+at_over ring w h id (input.Deliver m) completion k = passed_over ring w h k
+at_over ring w h id input.Elect completion k = member_over ring w h id (Handle input.Elect) completion k tt
+at_over ring w h id input.Beat completion k = member_over ring w h id (Handle input.Beat) completion k tt
+at_over ring w h id (input.Write client changes) completion k = member_over ring w h id (Handle (input.Write client changes)) completion k tt
+at_over ring w h id (input.Rotate client) completion k = member_over ring w h id (Handle (input.Rotate client)) completion k tt
+at_over ring w h id (input.Transfer client target) completion k = member_over ring w h id (Handle (input.Transfer client target)) completion k tt
+at_over ring w h id (input.Cancel client) completion k = member_over ring w h id (Handle (input.Cancel client)) completion k tt
+
+line_over : (ring : Layout) (w : WorldState) (h : History) (completion : Completion) (l : Line) → IsWorld ring w h → Carried ring w (line_step ring w completion l) h (acted_elections ring w completion (acting w l))
+line_over ring w h completion (line.At node i) k = at_over ring w h node i completion k
+line_over ring w h completion (line.Give number) k = given_over ring w h completion number (message_at w.messages number) refl k
+line_over ring w h completion (line.Next node) k = next_over ring w h node completion (next_to w node) k
+line_over ring w h completion (line.Skip node) k = skipped_over ring w h node (next_to w node) k
+line_over ring w h completion (line.Again node) k = given_over ring w h completion (w.cursors node) (message_at w.messages (w.cursors node)) refl k
+line_over ring w h completion (line.Crash node) k = member_over ring w h node GoDown completion k tt
+line_over ring w h completion (line.Restart node) k = member_over ring w h node ComeUp completion k tt
+
+pub event_over : (ring : Layout) (w : WorldState) (h : History) (m : Move) → IsWorld ring w h → Carried ring w (world_step ring w m.event m.completion) h (event_elections ring w m)
+unfolding world_step
+event_over ring w h m k = line_over ring w h m.completion m.event.what k
+
+-- ---- no event is torn
+task_whole : (ring : Layout) (w : WorldState) (h : History) (id : ℕ) (task : Task) (o : Option Soft) → (w.nodes id).soft ≡ o → IsWorld ring w h → MayTake w.messages id task → tear_at ring id (w.nodes id).durable o task ≡ None
+task_whole ring w h id (Handle i) None up k given = refl
+task_whole ring w h id (Handle i) (Some s) up k given =
+    step_whole ring h id (w.nodes id).durable s i k.history (k.nodes id) (k.running id s up) (subst (λ (ms : List Message). IsGiven ms id i) (sym k.messages) given)
+task_whole ring w h id GoDown None up k given = refl
+task_whole ring w h id GoDown (Some s) up k given = refl
+task_whole ring w h id ComeUp None up k given = refl
+task_whole ring w h id ComeUp (Some s) up k given = refl
+
+member_whole : (ring : Layout) (w : WorldState) (h : History) (id : ℕ) (task : Task) → IsWorld ring w h → MayTake w.messages id task → acted_tear ring w (Some (id, task)) ≡ None
+member_whole ring w h id task k given = go (is_member ring id)
+  where
+    go : (b : Bool) → (if b then tear_at ring id (w.nodes id).durable (w.nodes id).soft task else None) ≡ None
+    go true = task_whole ring w h id task (w.nodes id).soft refl k given
+    go false = refl
+
+given_whole : (ring : Layout) (w : WorldState) (h : History) (number : ℕ) (o : Option Message) → message_at w.messages number ≡ o → IsWorld ring w h → acted_tear ring w (acts_on o) ≡ None
+given_whole ring w h number None is k = refl
+given_whole ring w h number (Some m) is k = member_whole ring w h m.to (Handle (input.Deliver m)) k (in_number w.messages number m is, refl)
+
+next_whole : (ring : Layout) (w : WorldState) (h : History) (o : Option ℕ) → IsWorld ring w h → acted_tear ring w (acts_on_number w o) ≡ None
+next_whole ring w h None k = refl
+next_whole ring w h (Some number) k = given_whole ring w h number (message_at w.messages number) refl k
+
+at_whole : (ring : Layout) (w : WorldState) (h : History) (id : ℕ) (i : Input) → IsWorld ring w h → acted_tear ring w (acts_at id i) ≡ None
+at_whole ring w h id (input.Deliver m) k = refl
+at_whole ring w h id input.Elect k = member_whole ring w h id (Handle input.Elect) k tt
+at_whole ring w h id input.Beat k = member_whole ring w h id (Handle input.Beat) k tt
+at_whole ring w h id (input.Write client changes) k = member_whole ring w h id (Handle (input.Write client changes)) k tt
+at_whole ring w h id (input.Rotate client) k = member_whole ring w h id (Handle (input.Rotate client)) k tt
+at_whole ring w h id (input.Transfer client target) k = member_whole ring w h id (Handle (input.Transfer client target)) k tt
+at_whole ring w h id (input.Cancel client) k = member_whole ring w h id (Handle (input.Cancel client)) k tt
+
+pub line_whole : (ring : Layout) (w : WorldState) (h : History) (l : Line) → IsWorld ring w h → acted_tear ring w (acting w l) ≡ None
+line_whole ring w h (line.At node i) k = at_whole ring w h node i k
+line_whole ring w h (line.Give number) k = given_whole ring w h number (message_at w.messages number) refl k
+line_whole ring w h (line.Next node) k = next_whole ring w h (next_to w node) k
+line_whole ring w h (line.Skip node) k = refl
+line_whole ring w h (line.Again node) k = given_whole ring w h (w.cursors node) (message_at w.messages (w.cursors node)) refl k
+line_whole ring w h (line.Crash node) k = member_whole ring w h node GoDown k tt
+line_whole ring w h (line.Restart node) k = member_whole ring w h node ComeUp k tt
+
+-- ---- the first world
+abbrev pub first_history : History
+first_history = record { elections = []; casts = []; book = λ t. []; messages = []; chosen = [] }
+
+no_acks : (v s p : ℕ) → HasAcked first_history v s p → ⊥
+no_acks v s p (As_leader e in_e t by le) = none_contained e in_e
+no_acks v s p (By_reply m q in_m by body le) = none_contained m in_m
+
+pub first_holds : (ring : Layout) → IsWorld ring first_world first_history
+first_holds ring = record {
+  messages = refl;
+  chosen = refl;
+  history = record {
+    elections = λ e in_e. absurd (none_contained e in_e);
+    one_leader = λ e f in_e in_f t. absurd (none_contained e in_e);
+    casts = λ c in_c. absurd (none_contained c in_c);
+    one_vote = λ c d in_c in_d v t. absurd (none_contained c in_c);
+    sent = λ m in_m. absurd (none_contained m in_m);
+    chosen = (0, Nothing_yet refl);
+  };
+  nodes = λ id. record {
+    log = record { entry = λ k some le. absurd (omega arith); rises = λ j k a b. (let z : j ≡ 0 = omega arith in rw z (omega arith)); below = omega arith };
+    led_below = λ e in_e by. absurd (none_contained e in_e);
+    led_log = λ e in_e by t. absurd (none_contained e in_e);
+    cast_below = λ c in_c by. absurd (none_contained c in_c);
+    cast_kept = λ c in_c by t. absurd (none_contained c in_c);
+    votes_cast = λ w in_w. absurd (none_contained w in_w);
+    dropped = λ c in_c by. absurd (none_contained c in_c);
+    between = λ c e in_c in_e a b t x y. absurd (none_contained c in_c);
+    acked_below = λ s p a. absurd (no_acks id s p a);
+    acked = λ s p a. absurd (no_acks id s p a);
+    applied = Nothing_yet refl;
+  };
+  running = λ id s up. let is : fresh_soft empty_durable ≡ s = cc in
+      subst (λ (o : Soft). IsRunning ring first_history id empty_durable o) is (record { sealed = Nothing_yet refl; chosen = omega arith; applied = omega arith; role = tt });
+  applied = λ id. omega arith;
+}

@@ -1,0 +1,150 @@
+-- Every run of every ring is safe, and each leader's region is covered by the later elections: the invariant holds in the first world and each event keeps it.
+use Rattle.std.proofs.Common.{◌≡◌, ℕ, ◌≤◌, [], ◌∷◌, ◌++◌, ◌∙◌, List, ap, arith, false, length, refl, subst, sym, true}
+use Rattle.std.proofs.lemmas.List.{append-nil}
+use Rattle.std.specs.List.{Contains}
+use Rattle.ring_types.specs.declared.entries.Entry.{Entry}
+use Rattle.ring_types.specs.Rings.{Layout, region_of}
+use Rattle.ring_model.specs.Safety.{Agree, AppliedPrefix, ChosenOnlyGrows, EveryRunCoversLeaders, EveryRunIsSafeSoFar, LeadersHave, Leads, LogsMatch, NeverTorn, OneLeaderATerm, needed_by}
+use Rattle.ring_model.specs.declared.nodes.Role.TheVariants.{Candidate, Follower, Leader}
+use Rattle.ring_model.specs.declared.nodes.Durable.{Durable}
+use Rattle.ring_model.specs.Runs.{Election, Move, elections, elections_from, event_elections, world, world_from}
+use Rattle.ring_model.specs.declared.nodes.Role.{Role}
+use Rattle.ring_model.specs.declared.nodes.Soft.{Soft}
+use Rattle.ring_model.specs.Worlds.{WorldState, first_world, world_step}
+use Rattle.ring_model.specs.Nodes.{is_leader}
+use Rattle.ring_model.proofs.Lists.{contains_listed}
+use Rattle.ring_model.proofs.Invariant.{HasRole, History, IsHistory, IsLeader, IsSealed, Nothing_yet, Sealed_at}
+use Rattle.ring_model.proofs.Growth.{agree_less, agree_trans}
+use Rattle.ring_model.proofs.Cover.{committed_in_book, is_election, leaders_covered}
+use Rattle.ring_model.proofs.Following.{agree_same, log_match}
+use Rattle.ring_model.proofs.Turns.{IsWorld, in_chosen}
+use Rattle.ring_model.proofs.Events.{Carried, carried_join, event_over, first_history, first_holds, line_whole}
+
+pub run_over : (ring : Layout) (w : WorldState) (h : History) (run : List Move) → IsWorld ring w h → Carried ring w (world_from ring w run) h (elections_from ring w run)
+run_over ring w h [] k = record {
+  after = h;
+  world = k;
+  chosen = agree_same (length w.chosen) w.chosen (omega arith);
+  led = λ e in_e. in_e;
+  sealed = λ u c l x. x;
+  elections = sym (append-nil h.elections);
+}
+run_over ring w h (m ∷ run) k =
+    let x = event_over ring w h m k in
+    carried_join ring w (world_step ring w m.event m.completion) (world_from ring (world_step ring w m.event m.completion) run) h (event_elections ring w m) (elections_from ring (world_step ring w m.event m.completion) run) x
+    (run_over ring (world_step ring w m.event m.completion) x.after run x.world)
+
+world_join : (ring : Layout) (w : WorldState) (before after : List Move) → world_from ring w (before ++ after) ≡ world_from ring (world_from ring w before) after
+world_join ring w [] after = refl
+world_join ring w (m ∷ before) after = world_join ring (world_step ring w m.event m.completion) before after
+
+-- the world after a run, with its history
+pub record Reached (ring : Layout) (run : List Move) : Type 0 where
+  pub history : History
+  pub world : IsWorld ring (world ring run) history
+  pub elections : history.elections ≡ elections ring run
+
+pub reached : (ring : Layout) (run : List Move) → Reached ring run
+unfolding world elections
+reached ring run = let x = run_over ring first_world first_history run (first_holds ring) in record { history = x.after; world = x.world; elections = x.elections }
+
+-- two worlds of one run, the second the later
+record TwoWorlds (ring : Layout) (before run : List Move) : Type 0 where
+  old : History
+  old_world : IsWorld ring (world ring before) old
+  new : History
+  new_world : IsWorld ring (world ring run) new
+  chosen : Agree (length (world ring before).chosen) (world ring before).chosen (world ring run).chosen
+  sealed : (u c : ℕ) (l : List Entry) → IsSealed ring old u c l → IsSealed ring new u c l
+
+two_worlds : (ring : Layout) (before after run : List Move) → run ≡ before ++ after → TwoWorlds ring before run
+unfolding world
+two_worlds ring before after run is =
+    let x = run_over ring first_world first_history before (first_holds ring) in
+    let y = run_over ring (world_from ring first_world before) x.after after x.world in
+    let same : world_from ring (world_from ring first_world before) after ≡ world_from ring first_world run = sym (world_join ring first_world before after) ∙ ap (world_from ring first_world) (sym is) in
+    record {
+      old = x.after;
+      old_world = x.world;
+      new = y.after;
+      new_world = subst (λ (v : WorldState). IsWorld ring v y.after) same y.world;
+      chosen = subst (λ (v : WorldState). Agree (length (world_from ring first_world before).chosen) (world_from ring first_world before).chosen v.chosen) same y.chosen;
+      sealed = y.sealed;
+    }
+
+leader_in : (ring : Layout) (w : WorldState) (h : History) (id : ℕ) (s : Soft) → IsWorld ring w h → Leads w id s → IsLeader h id (w.nodes id).durable s
+leader_in ring w h id s k leads = go s.role refl (k.running id s leads.0).role
+  where
+    go : (r : Role) → s.role ≡ r → HasRole h id (w.nodes id).durable s r → IsLeader h id (w.nodes id).durable s
+    go Follower is x = absurd (let z : false ≡ true = sym (ap is_leader is) ∙ leads.1 in cc)
+    go Candidate is x = absurd (let z : false ≡ true = sym (ap is_leader is) ∙ leads.1 in cc)
+    go Leader is x = x
+
+sealed_in_book : (ring : Layout) (h : History) (u c t : ℕ) (l : List Entry) (e : Election) → IsHistory ring h → Contains h.elections e → e.term ≡ t → u ≤ t → IsSealed ring h u c l → Agree c l (h.book t)
+sealed_in_book ring h u c t l e k in_e is le (Nothing_yet z) = record { left = omega arith; right = omega arith; same = rw z refl }
+sealed_in_book ring h u c t l e k in_e is le (Sealed_at s p a b m x) = agree_trans c l (h.book s) (h.book t) x (agree_less c p (h.book s) (h.book t) b (committed_in_book ring h k s p t e m in_e is (omega arith)))
+
+-- ---- the facts of a safe run
+applied_prefix : (ring : Layout) (run : List Move) → AppliedPrefix (world ring run)
+applied_prefix ring run =
+    let x = reached ring run in
+    let k = x.world in
+    record {
+      applied = λ id. subst (λ (l : List Entry). Agree ((world ring run).nodes id).durable.applied ((world ring run).nodes id).durable.log l) k.chosen
+          (in_chosen ring x.history ((world ring run).nodes id).durable.term ((world ring run).nodes id).durable.applied ((world ring run).nodes id).durable.log k.history (k.nodes id).applied (k.applied id));
+      committed = λ id s up. let r = k.running id s up in
+          subst (λ (l : List Entry). Agree s.commit ((world ring run).nodes id).durable.log l) k.chosen
+          (in_chosen ring x.history ((world ring run).nodes id).durable.term s.commit ((world ring run).nodes id).durable.log k.history r.sealed r.chosen);
+    }
+
+one_leader_a_term : (ring : Layout) (run : List Move) → OneLeaderATerm (world ring run) (elections ring run)
+one_leader_a_term ring run =
+    let x = reached ring run in
+    record {
+      once = λ e f in_e in_f same. x.world.history.one_leader e f
+          (subst (λ (l : List Election). Contains l e) (sym x.elections) in_e) (subst (λ (l : List Election). Contains l f) (sym x.elections) in_f) same;
+      elected = λ id s leads. let l = leader_in ring (world ring run) x.history id s x.world leads in
+          (l.election, subst (λ (es : List Election). Contains es l.election) x.elections l.led, l.by, l.of_term);
+    }
+
+logs_match : (ring : Layout) (run : List Move) → LogsMatch (world ring run)
+logs_match ring run i j position some in_i in_j same =
+    let x = reached ring run in
+    log_match ring x.history ((world ring run).nodes i).durable.term ((world ring run).nodes j).durable.term position ((world ring run).nodes i).durable.log ((world ring run).nodes j).durable.log
+    (x.world.nodes i).log (x.world.nodes j).log some in_i in_j same
+
+chosen_grows : (ring : Layout) (run : List Move) → ChosenOnlyGrows ring run
+chosen_grows ring run before after is = (two_worlds ring before after run is).chosen
+
+never_torn_event : (ring : Layout) (run : List Move) → NeverTorn ring run
+never_torn_event ring run before after m is = let x = reached ring before in line_whole ring (world ring before) x.history m.event.what x.world
+
+leaders_have : (ring : Layout) (run : List Move) → LeadersHave ring run
+leaders_have ring run before after i j s o is up leads le =
+    let t = two_worlds ring before after run is in
+    let d : Durable = ((world ring before).nodes i).durable in
+    let e : Durable = ((world ring run).nodes j).durable in
+    let y = leader_in ring (world ring run) t.new j o t.new_world leads in
+    let book : e.log ≡ t.new.book e.term = (t.new_world.nodes j).led_log y.election y.led y.by y.of_term ∙ ap t.new.book y.of_term in
+    subst (λ (b : List Entry). Agree s.commit d.log b) (sym book)
+    (sealed_in_book ring t.new d.term s.commit e.term d.log y.election t.new_world.history y.led y.of_term le (t.sealed d.term s.commit d.log (t.old_world.running i s up).sealed))
+
+pub every_run_is_safe_so_far : EveryRunIsSafeSoFar
+every_run_is_safe_so_far ring run lawful = record {
+  applied_prefix = applied_prefix ring run;
+  one_leader_a_term = one_leader_a_term ring run;
+  logs_match = logs_match ring run;
+  chosen_grows = chosen_grows ring run;
+  never_torn = never_torn_event ring run;
+  leaders_have = leaders_have ring run;
+}
+
+-- ---- the cover of earlier leaders
+pub every_run_covers_leaders : EveryRunCoversLeaders
+every_run_covers_leaders ring run lawful e f in_e in_f low high =
+    let x = reached ring run in
+    let k = x.world.history in
+    let led_e : Contains x.history.elections e = subst (λ (l : List Election). Contains l e) (sym x.elections) in_e in
+    let led_f : Contains x.history.elections f = subst (λ (l : List Election). Contains l f) (sym x.elections) in_f in
+    let y = leaders_covered ring x.history k f e (is_election ring x.history k f led_f) led_e low high in
+    (contains_listed (needed_by ring f) (region_of ring e.node) y.0, y.1)
