@@ -12,6 +12,8 @@ mod lists;
 mod logs;
 mod sizes;
 mod table_rows;
+#[cfg(test)]
+mod tests;
 
 pub use fitting::{
     change_fits, changes_fit, comes_before, fits_table, has_lesser_key, has_null_key, has_this_key,
