@@ -6,8 +6,8 @@ use Rattle.std.proofs.lemmas.Bool.Decides.{nat_tests}
 use Rattle.std.proofs.lemmas.Slice.Eq.{bytes_eq-Decides}
 use Rattle.std.proofs.lemmas.List.{length-map}
 use Rattle.std.proofs.lemmas.List.Folds.{list_any_at, list_all-map}
-use Rattle.ring_types.specs.Names.{has_text_twice}
-use Rattle.ring_types.specs.Rings.{Layout, IsRing, is_voter, is_declared, has_voter, place_of, member_from, layout_of, built, is_in_range, too_many, twice_named, no_region, no_voter, bad_schema, is_schema, schema_fits, proxy_of}
+use Rattle.ring_types.specs.Names.{has_text_twice, is_name}
+use Rattle.ring_types.specs.Rings.{Layout, IsRing, is_voter, is_declared, has_voter, place_of, member_from, layout_of, built, is_in_range, too_many, twice_named, no_region, no_voter, bad_schema, is_schema, schema_fits, proxy_of, part_fits, member_fits, client_fits, address_fits}
 use Rattle.ring_types.specs.declared.members.Member.{Member}
 use Rattle.ring_types.specs.declared.members.MemberPart.{MemberPart}
 use Rattle.ring_types.specs.declared.members.RingParts.{RingParts}
@@ -130,8 +130,37 @@ servers_stay : (regions : List (List ℕ)) (parts : List MemberPart) → map (λ
 servers_stay regions [] = refl
 servers_stay regions (m ∷ ms) = ap (λ ns. m.server ∷ ns) (servers_stay regions ms)
 
+-- a part in its range makes a member in its range
+member_in_range : (a b c d : Bool) → (a && b && c && d) ≡ true → (a && b && d) ≡ true
+member_in_range a b c d h =
+    let x = both_true (a && b && c) d h in
+    let y = both_true (a && b) c x.0 in
+    as_and (a && b) d y.0 x.1
+
+members_in_range : (regions : List (List ℕ)) (parts : List MemberPart) → list_all part_fits parts ≡ true → list_all member_fits (map (member_from regions) parts) ≡ true
+members_in_range regions [] h = refl
+members_in_range regions (m ∷ ms) h =
+    let b = both_true (part_fits m) (list_all part_fits ms) h in
+    as_and (member_fits (member_from regions m)) (list_all member_fits (map (member_from regions) ms))
+      (member_in_range (nat_le 1 m.id) (nat_le m.id 65535) (is_name m.region) (address_fits m.address) b.0) (members_in_range regions ms b.1)
+
+-- each kind of part is in its range
+pub record InRange (p : RingParts) : Type 0 where
+  pub regions : list_all is_name p.regions ≡ true
+  pub members : list_all part_fits p.members ≡ true
+  pub clients : list_all client_fits p.clients ≡ true
+
+ranges : (p : RingParts) → is_in_range p ≡ true → InRange p
+unfolding is_in_range
+ranges p r =
+    let a = both_true _ _ r in
+    let b = both_true _ _ a.0 in
+    let c = both_true _ _ b.0 in
+    let d = both_true _ _ c.0 in
+    record { regions = d.1; members = c.1; clients = b.1 }
+
 -- ---- the ring
-at_most : (n m : ℕ) → nat_lt n m ≡ false → m < n + 1
+at_most : (n m : ℕ) → nat_lt n m ≡ false → m ≤ n
 at_most n m h = grind (arith, nat_tests)
 
 few : (n : ℕ) → nat_lt 256 n ≡ false → n ≤ 256
@@ -153,10 +182,14 @@ is_ring p r m t n v s =
     let t2 = both_false _ _ t3.0 in
     let t1 = both_false _ _ t2.0 in
     let n1 = both_false _ _ n in
+    let range = ranges p r in
     record {
-      members_fit = rw length-map (at_most _ _ m1.0);
-      regions_fit = at_most _ _ m1.1;
-      clients_fit = at_most _ _ m2.1;
+      few_members = rw length-map (at_most _ _ m1.0);
+      few_regions = at_most _ _ m1.1;
+      few_clients = at_most _ _ m2.1;
+      members_fit = members_in_range p.regions p.members range.members;
+      clients_fit = range.clients;
+      regions_are_names = range.regions;
       numbers_once = rw (ids_stay p.regions p.members) t1.0;
       clients_once = t1.1;
       regions_once = t2.1;

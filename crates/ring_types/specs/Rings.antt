@@ -184,11 +184,17 @@ region_is_declared ring m = nat_le 1 m.region && nat_le m.region (length ring.re
 abbrev pub region_has_voter : Layout → ℕ → Bool
 region_has_voter ring region = list_any (λ (m : Member). m.region == region && is_voter m.kind) ring.members
 
+abbrev pub member_fits : Member → Bool
+member_fits m = nat_le 1 m.id && nat_le m.id 65535 && address_fits m.address
+
 -- each thing is named once, each region from 1 to their number has a voter, and all is within its limits
 pub record IsRing (ring : Layout) : Type 0 where
-  pub members_fit : length ring.members < 65
-  pub regions_fit : length ring.regions < 17
-  pub clients_fit : length ring.clients < 65
+  pub few_members : length ring.members ≤ 64
+  pub few_regions : length ring.regions ≤ 16
+  pub few_clients : length ring.clients ≤ 64
+  pub members_fit : list_all member_fits ring.members ≡ true
+  pub clients_fit : list_all client_fits ring.clients ≡ true
+  pub regions_are_names : list_all is_name ring.regions ≡ true
   pub numbers_once : has_twice (map (λ (m : Member). m.id) ring.members) ≡ false
   pub clients_once : has_twice (map (λ (c : Address). c.id) ring.clients) ≡ false
   pub regions_once : has_text_twice ring.regions ≡ false

@@ -1,4 +1,4 @@
-ghost use Rattle.std.specs.Prelude.{◌≡◌, ◌++◌, ◌∷◌, [], ◌<◌, ◌↔◌, IsTrue, OnOk, OnErr, OnSome, length, slice_get};
+ghost use Rattle.std.specs.Prelude.{◌≡◌, ◌++◌, ◌∷◌, [], ◌<◌, ◌↔◌, IsTrue, OnOk, OnErr, OnSome, length, slice_get, slice_set};
 ghost use Rattle.std.specs.Option.{option_copied};
 
 use crate::duplication::{Duplicate, Memory};
@@ -78,6 +78,24 @@ impl<T: Drop> List<T> {
     {
         self.items.push(item)?;
         Ok(())
+    }
+}
+
+impl<T: Drop> List<T> {
+    /// Puts an item in the place of another. Takes no memory.
+    pub fn set(&mut self, at: usize, item: T)
+        requires { at < length self.old }
+        ensures { self.new ≡ slice_set self.old at item }
+    {
+        self.items[at] = item;
+    }
+
+    /// Moves the items of `more` to the end. Without memory the list stays as it was.
+    pub fn append(&mut self, more: List<T>) -> Result<(), Memory>
+        ensures { OnOk result (self.new ≡ self.old ++ more) }
+    {
+        let List { mut items } = more;
+        self.items.append(&mut items)
     }
 }
 
