@@ -270,3 +270,19 @@ fn copies_what_it_is_given(rt: HostRuntime) -> Result<(), Fail> {
     assert!(rt; entry.copy(alloc)? == entry);
     Ok(())
 }
+
+#[test]
+fn takes_and_gives_items(rt: HostRuntime) -> Result<(), Fail> {
+    let alloc = rt.alloc();
+    let mut list = List::from_vec(Vec::from_slice(alloc, &[1u64, 2])?);
+    let mut more = List::new(alloc);
+    more.push(4u64)?;
+    list.extend_from_slice(&[3])?;
+    list.append(more)?;
+    list.set(0, 9);
+    assert_eq!(rt; list.as_slice(), [9, 2, 3, 4].as_slice());
+    assert_eq!(rt; list.get(1).copied(), Some(2));
+    assert_eq!(rt; list.len(), 4);
+    assert!(rt; !list.is_empty());
+    Ok(())
+}
