@@ -144,6 +144,7 @@ more_row ring h id to term d s st row =
       role = role_sent ring row.sent m id (all_done d st.plan.actions) st.soft st.soft.role row.role;
       sealed = sealed_sent ring row.sent m (all_done d st.plan.actions).term st.soft.commit (all_done d st.plan.actions).log row.sealed;
       applied = row.applied;
+      reaches = row.reaches;
       holding = row.holding;
     }
 
@@ -156,7 +157,8 @@ none_more_row ring h id d s st row = record {
   role = row.role;
   sealed = row.sealed;
   applied = row.applied;
-  holding = row.holding;
+  reaches = row.reaches;
+      holding = row.holding;
 }
 
 over_row : (ring : Layout) (h : History) (id from : ℕ) (e d : Durable) (s : Soft) (peers : List Peer) (t : Transfer) (st : Step) → IsRow ring h id d s st → IsRow ring h id d s (with_more st (after_ok id e peers from t))
