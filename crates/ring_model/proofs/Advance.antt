@@ -81,7 +81,7 @@ engine_path ring id h (suc n) a d l pairs is le s may =
     subst (λ (t : ℕ). IsSealed ring h t (suc a) e.log) (sym same.term) (subst (λ (w : List Entry). IsSealed ring h d.term (suc a) w) (sym (same.log ∙ is)) (seal_less ring h d.term (a + suc n) (suc a) l (omega arith) s)) in
     let ih = engine_path ring id h n (suc a) (done e (action.Commit (suc a))) l pairs (same.log ∙ is) (omega arith)
     (subst (λ (t : ℕ). IsSealed ring h t (suc a + n) l) (sym same.term) (seal_less ring h d.term (a + suc n) (suc a + n) l (omega arith) s))
-        (subst (λ (t : ℕ). MayReach h id t (suc a + n)) (sym same.term) (reach_less h id d.term (a + suc n) (suc a + n) (omega arith) may)) in
+    (subst (λ (t : ℕ). MayReach h id t (suc a + n)) (sym same.term) (reach_less h id d.term (a + suc n) (suc a + n) (omega arith) may)) in
     let j = done_join d (prepare_entry pairs (entry_at l (suc a))) (action.Commit (suc a) ∷ engine_actions l pairs (suc a) n) in
     record {
       path = path_join ring id h h h d (prepare_entry pairs (entry_at l (suc a))) (action.Commit (suc a) ∷ engine_actions l pairs (suc a) n) p.path (Goes_on (Applies (suc a) refl sealed (subst (λ (t : ℕ). MayReach h id t (suc a)) (sym same.term) (reach_less h id d.term (a + suc n) (suc a) (omega arith) may)) refl) ih.path);

@@ -158,7 +158,7 @@ none_more_row ring h id d s st row = record {
   sealed = row.sealed;
   applied = row.applied;
   reaches = row.reaches;
-      holding = row.holding;
+  holding = row.holding;
 }
 
 over_row : (ring : Layout) (h : History) (id from : ℕ) (e d : Durable) (s : Soft) (peers : List Peer) (t : Transfer) (st : Step) → IsRow ring h id d s st → IsRow ring h id d s (with_more st (after_ok id e peers from t))

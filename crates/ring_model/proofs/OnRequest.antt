@@ -96,7 +96,8 @@ module _ (ring : Layout) (h : History) (id from : ℕ) (asked : RequestVote) (d 
     role = role_sent ring h (refuse_vote id from asked.term) id (all_done d first) s s.role role;
     sealed = sealed_sent ring h (refuse_vote id from asked.term) (all_done d first).term s.commit (all_done d first).log sealed;
     applied = applied;
-    reaches = inl low; holding = quiet_standing h first p (before_quiet ring id h h d first p before);
+    reaches = inl low;
+    holding = quiet_standing h first p (before_quiet ring id h h d first p before);
   }
 
   kept_row : (w : Vote) → Contains (all_done d first).votes w → w.term ≡ asked.term → w.candidate ≡ from → IsRow ring h id d o (granted_now id d s first says from asked)
@@ -113,7 +114,8 @@ module _ (ring : Layout) (h : History) (id from : ℕ) (asked : RequestVote) (d 
         role = role_sent ring h (grant_vote id from asked e) id e s s.role role;
         sealed = sealed_sent ring h (grant_vote id from asked e) e.term s.commit e.log sealed;
         applied = applied;
-        reaches = inl low; holding = quiet_standing h first p (before_quiet ring id h h d first p before);
+        reaches = inl low;
+        holding = quiet_standing h first p (before_quiet ring id h h d first p before);
       }
 
   cast_row : ((w : Vote) → Contains (all_done d first).votes w → w.term ≡ asked.term → ⊥) → IsUpToDate asked.last (all_done d first).log → floor_of d s ≡ term_at (all_done d first).log s.commit
@@ -152,7 +154,8 @@ module _ (ring : Layout) (h : History) (id from : ℕ) (asked : RequestVote) (d 
         sealed = subst (λ (w : Durable). IsSealed ring (with_message m answer) w.term s.commit w.log) (sym j)
             (sealed_sent ring m answer e.term s.commit e.log (grow_sealed ring id h m a.grows e.term e.term s.commit e.log (omega arith) sealed));
         applied = subst (λ (w : Durable). w.applied ≤ s.commit) (sym j) applied;
-        reaches = inl low; holding = quiet_standing m (first ++ (vote ∷ [])) (path_join ring id h h m d first (vote ∷ []) p (Goes_on (Votes c (floor_of d s) refl may refl) Ends))
+        reaches = inl low;
+        holding = quiet_standing m (first ++ (vote ∷ [])) (path_join ring id h h m d first (vote ∷ []) p (Goes_on (Votes c (floor_of d s) refl may refl) Ends))
             (quiet_join ring id h h m d first (vote ∷ []) p (Goes_on (Votes c (floor_of d s) refl may refl) Ends) (before_quiet ring id h h d first p before) refl);
       } in
       subst (λ (w : Durable). IsRow ring h id d o (stepped (first ++ (vote ∷ [])) (grant_vote id from asked w ∷ []) says s)) (sym j) row
@@ -199,7 +202,8 @@ request_row ring h id from asked d s k n r sent = voter (votes ring id)
       role = role_sent ring h (refuse_vote id from d.term) id d s s.role r.role;
       sealed = sealed_sent ring h (refuse_vote id from d.term) d.term s.commit d.log r.sealed;
       applied = r.applied;
-      reaches = inl r.chosen; holding = stays_holding ring id h d s s refl;
+      reaches = inl r.chosen;
+      holding = stays_holding ring id h d s s refl;
     }
     go false x true y =
         let up : d.term < asked.term = grind (arith, nat_tests, y) in

@@ -134,10 +134,10 @@ chosen_by_leader ring run before m is more id task acts =
     let at : world_from ring first_world run ≡ v = ap (world_from ring first_world) is ∙ world_join ring first_world before (m ∷ []) in
     let led = y.grew (subst (λ (z : WorldState). length w.chosen < length z.chosen) at more) id task acts in
     let held : y.after.elections ≡ elections_from ring first_world run =
-          y.elections
-          ∙ (ap (λ (e : List Election). e ++ event_elections ring w m) x.elections
-            ∙ (ap (λ (e : List Election). elections_from ring first_world before ++ e) (sym (append-nil (event_elections ring w m)))
-              ∙ (sym (elections_join ring first_world before (m ∷ [])) ∙ ap (elections_from ring first_world) (sym is)))) in
+    y.elections
+    ∙ (ap (λ (e : List Election). e ++ event_elections ring w m) x.elections
+    ∙ (ap (λ (e : List Election). elections_from ring first_world before ++ e) (sym (append-nil (event_elections ring w m)))
+    ∙ (sym (elections_join ring first_world before (m ∷ [])) ∙ ap (elections_from ring first_world) (sym is)))) in
     (led.0, subst (λ (l : List Election). Contains l led.0) held led.1, led.2, led.3 ∙ ap (λ (z : WorldState). (z.nodes id).durable.term) (sym at))
 
 never_torn_event : (ring : Layout) (run : List Move) → NeverTorn ring run
