@@ -23,7 +23,7 @@ use Rattle.ring_model.specs.declared.effects.Action.TheVariants as action
 use Rattle.ring_model.proofs.Lists.{cons_cases}
 use Rattle.ring_model.proofs.Invariant.{HasAcked, HasRole, History, IsHistory, IsLeader, IsNode, IsSealed, Nothing_yet, Sealed_at}
 use Rattle.ring_model.proofs.Growth.{agree_less}
-use Rattle.ring_model.proofs.Paths.{Applies, Ends, Engine, Goes_on, IsHeld, Path, SameLog, done_join, elected, held_join, path_join, quiet_join}
+use Rattle.ring_model.proofs.Paths.{Applies, Ends, Engine, Goes_on, IsHeld, IsLed, MayReach, reach_less, Path, SameLog, done_join, elected, held_join, path_join, quiet_join}
 use Rattle.ring_model.proofs.Winning.{leader_commits}
 use Rattle.ring_model.proofs.Turns.{Holding, IsRow, Leads_now, Led_before, Sent_all}
 
@@ -70,30 +70,32 @@ prepare_path ring id h d pairs (Some e) = go (pair_of e) (is_prepared pairs e.op
     go (Some p) true = no_actions ring id h d
     go (Some p) false = engine_action ring id h d (action.Prepare p) (record { term = refl; votes = refl; log = refl; applied = refl })
 
-pub engine_path : (ring : Layout) (id : ℕ) (h : History) (n a : ℕ) (d : Durable) (l : List Entry) (pairs : List Pair) → d.log ≡ l → d.applied ≤ a → IsSealed ring h d.term (a + n) l
+pub engine_path : (ring : Layout) (id : ℕ) (h : History) (n a : ℕ) (d : Durable) (l : List Entry) (pairs : List Pair) → d.log ≡ l → d.applied ≤ a → IsSealed ring h d.term (a + n) l → MayReach h id d.term (a + n)
     → EnginePath ring id h d (engine_actions l pairs a n) (a + n)
-engine_path ring id h zero a d l pairs is le s = record { path = Ends; quiet = refl; after = record { term = refl; votes = refl; log = refl; applied = omega arith } }
-engine_path ring id h (suc n) a d l pairs is le s =
+engine_path ring id h zero a d l pairs is le s may = record { path = Ends; quiet = refl; after = record { term = refl; votes = refl; log = refl; applied = omega arith } }
+engine_path ring id h (suc n) a d l pairs is le s may =
     let p = prepare_path ring id h d pairs (entry_at l (suc a)) in
     let e : Durable = all_done d (prepare_entry pairs (entry_at l (suc a))) in
     let same = p.same in
     let sealed : IsSealed ring h e.term (suc a) e.log =
     subst (λ (t : ℕ). IsSealed ring h t (suc a) e.log) (sym same.term) (subst (λ (w : List Entry). IsSealed ring h d.term (suc a) w) (sym (same.log ∙ is)) (seal_less ring h d.term (a + suc n) (suc a) l (omega arith) s)) in
     let ih = engine_path ring id h n (suc a) (done e (action.Commit (suc a))) l pairs (same.log ∙ is) (omega arith)
-    (subst (λ (t : ℕ). IsSealed ring h t (suc a + n) l) (sym same.term) (seal_less ring h d.term (a + suc n) (suc a + n) l (omega arith) s)) in
+    (subst (λ (t : ℕ). IsSealed ring h t (suc a + n) l) (sym same.term) (seal_less ring h d.term (a + suc n) (suc a + n) l (omega arith) s))
+    (subst (λ (t : ℕ). MayReach h id t (suc a + n)) (sym same.term) (reach_less h id d.term (a + suc n) (suc a + n) (omega arith) may)) in
     let j = done_join d (prepare_entry pairs (entry_at l (suc a))) (action.Commit (suc a) ∷ engine_actions l pairs (suc a) n) in
     record {
-      path = path_join ring id h h h d (prepare_entry pairs (entry_at l (suc a))) (action.Commit (suc a) ∷ engine_actions l pairs (suc a) n) p.path (Goes_on (Applies (suc a) refl sealed refl) ih.path);
-      quiet = quiet_join ring id h h h d (prepare_entry pairs (entry_at l (suc a))) (action.Commit (suc a) ∷ engine_actions l pairs (suc a) n) p.path (Goes_on (Applies (suc a) refl sealed refl) ih.path) p.quiet ih.quiet;
+      path = path_join ring id h h h d (prepare_entry pairs (entry_at l (suc a))) (action.Commit (suc a) ∷ engine_actions l pairs (suc a) n) p.path (Goes_on (Applies (suc a) refl sealed (subst (λ (t : ℕ). MayReach h id t (suc a)) (sym same.term) (reach_less h id d.term (a + suc n) (suc a) (omega arith) may)) refl) ih.path);
+      quiet = quiet_join ring id h h h d (prepare_entry pairs (entry_at l (suc a))) (action.Commit (suc a) ∷ engine_actions l pairs (suc a) n) p.path (Goes_on (Applies (suc a) refl sealed (subst (λ (t : ℕ). MayReach h id t (suc a)) (sym same.term) (reach_less h id d.term (a + suc n) (suc a) (omega arith) may)) refl) ih.path) p.quiet ih.quiet;
       after = subst (λ (w : Durable). Followed d w (a + suc n)) (sym j)
           (record { term = ih.after.term ∙ same.term; votes = ih.after.votes ∙ same.votes; log = ih.after.log ∙ same.log; applied = omega (arith, ih.after.applied) });
     }
 
-pub follow_path : (ring : Layout) (me id : ℕ) (h : History) (d : Durable) (c : ℕ) → d.applied ≤ c → IsSealed ring h d.term c d.log → EnginePath ring id h d (follow_actions ring me d c) c
-follow_path ring me id h d c le s = go (runs_engine ring me) refl
+pub follow_path : (ring : Layout) (me id : ℕ) (h : History) (d : Durable) (c : ℕ) → d.applied ≤ c → IsSealed ring h d.term c d.log → MayReach h id d.term c → EnginePath ring id h d (follow_actions ring me d c) c
+follow_path ring me id h d c le s may = go (runs_engine ring me) refl
   where
     go : (b : Bool) → runs_engine ring me ≡ b → EnginePath ring id h d (follow_actions ring me d c) c
-    go true is = rw is (let x = engine_path ring id h (c - d.applied) d.applied d d.log d.prepared refl (omega arith) (let e : d.applied + (c - d.applied) ≡ c = omega arith in rw e s) in
+    go true is = rw is (let x = engine_path ring id h (c - d.applied) d.applied d d.log d.prepared refl (omega arith) (let e : d.applied + (c - d.applied) ≡ c = omega arith in rw e s)
+        (reach_less h id d.term c (d.applied + (c - d.applied)) (omega arith) may) in
         record { path = x.path; quiet = x.quiet; after = record { term = x.after.term; votes = x.after.votes; log = x.after.log; applied = omega (arith, x.after.applied) } })
     go false is = rw is (record { path = Ends; quiet = refl; after = record { term = refl; votes = refl; log = refl; applied = le } })
 
@@ -178,7 +180,8 @@ advance_row ring h m id d o s first says p k n role x sealed le rising =
     let c = commit_count ring id e.term e.log s in
     let t : Soft = record s { commit = c; pending = waiting c s.pending } in
     let y = count_sealed ring m id e s k n x sealed in
-    let f = follow_path ring id id m e c (omega (arith, y.1)) y.0 in
+    let led : IsLed m id e.term = (x.election, x.led, x.by, x.of_term) in
+    let f = follow_path ring id id m e c (omega (arith, y.1)) y.0 (inr led) in
     let j = done_join d first (follow_actions ring id e c) in
     record {
       acted = m;
@@ -191,5 +194,6 @@ advance_row ring h m id d o s first says p k n role x sealed le rising =
       sealed = subst (λ (w : Durable). IsSealed ring m w.term c w.log) (sym j)
           (subst (λ (u : ℕ). IsSealed ring m u c (all_done e (follow_actions ring id e c)).log) (sym f.after.term) (subst (λ (l : List Entry). IsSealed ring m e.term c l) (sym f.after.log) y.0));
       applied = subst (λ (w : Durable). w.applied ≤ c) (sym j) f.after.applied;
+      reaches = inr (subst (λ (w : Durable). IsLed m id w.term) (sym j) (subst (λ (u : ℕ). IsLed m id u) (sym f.after.term) led));
       holding = rising_holds ring id h m d o s t first (follow_actions ring id e c) p f.path (ap is_leader role) refl f.quiet rising;
     }

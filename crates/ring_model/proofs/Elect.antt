@@ -96,14 +96,14 @@ lead_row ring h m id d o s first says grants p before was k n x won sealed le =
 pub ask_row : (ring : Layout) (h m g : History) (id : ℕ) (d : Durable) (o s : Soft) (first : List Action) (says : List Say) (grants : List Grant) (asks : List Message) (p : Path ring id h d first m) → IsBefore ring id h m d first p
     → is_leader o.role ≡ false → IsHistory ring m → IsNode ring m id (all_done d first) → IsCandidate m id (all_done d first) grants
     → Sends ring id (all_done d first) m asks g → IsCandidate g id (all_done d first) grants → IsSealed ring m (all_done d first).term s.commit (all_done d first).log → IsSealed ring g (all_done d first).term s.commit (all_done d first).log
-    → (all_done d first).applied ≤ s.commit → IsRow ring h id d o (lead_or_ask ring id d s first says grants asks)
+    → (all_done d first).applied ≤ s.commit → s.commit ≤ length m.chosen → IsRow ring h id d o (lead_or_ask ring id d s first says grants asks)
 unfolding lead_or_ask
-ask_row ring h m g id d o s first says grants asks p before was k n x sends y sealed sealed_after le =
+ask_row ring h m g id d o s first says grants asks p before was k n x sends y sealed sealed_after le low =
     go (has_won ring id (all_done d first) grants) refl
   where
     go : (b : Bool) → has_won ring id (all_done d first) grants ≡ b → IsRow ring h id d o (if b then lead ring id d s first says grants else stepped first asks says (record s { role = Candidate; grants = grants }))
     go true is = lead_row ring h m id d o s first says grants p before was k n x is sealed le
-    go false is = record { acted = m; path = p; sent = g; sends = sends; role = y; sealed = sealed_after; applied = le; holding = Leads_not refl (before_quiet ring id h m d first p before) }
+    go false is = record { acted = m; path = p; sent = g; sends = sends; role = y; sealed = sealed_after; applied = le; reaches = inl low; holding = Leads_not refl (before_quiet ring id h m d first p before) }
 
 -- ---- the requests
 record Asked (ring : Layout) (h : History) (id : ℕ) (d : Durable) (grants : List Grant) (c : ℕ) (ms : List Message) : Type 0 where
@@ -152,7 +152,7 @@ stand_row ring h id d s was k n r =
       floor_below = omega arith;
     } in
     let m : History = with_cast h c in
-    let p : Path ring id h d first m = Goes_on (Raises t refl (omega arith) refl) (Goes_on (Votes c (floor_of d s) refl may refl) Ends) in
+    let p : Path ring id h d first m = Goes_on (Raises t refl (omega arith) (omega (arith, r.applied, r.chosen)) refl) (Goes_on (Votes c (floor_of d s) refl may refl) Ends) in
     let a = path_keeps ring id h m d first k n p in
     let e : Durable = all_done d first in
     let own : Grant = own_grant id e in
@@ -168,8 +168,8 @@ stand_row ring h id d s was k n r =
     } in
     let sealed : IsSealed ring m t s.commit d.log = grow_sealed ring id h m a.grows d.term t s.commit d.log (omega arith) r.sealed in
     let z = requests_sent ring m id t (last d.log) e (own ∷ []) s.commit ring.members refl refl x sealed in
-    ask_row ring h m z.sent id d s (demoted s) first (unknowns s) (own ∷ []) (requests id t (last d.log) ring.members) (Goes_on (Raises t refl (omega arith) refl) (Goes_on (Votes c (floor_of d s) refl may refl) Ends)) tt
-    was a.history a.node x z.sends z.candidate sealed z.sealed r.applied
+    ask_row ring h m z.sent id d s (demoted s) first (unknowns s) (own ∷ []) (requests id t (last d.log) ring.members) (Goes_on (Raises t refl (omega arith) (omega (arith, r.applied, r.chosen)) refl) (Goes_on (Votes c (floor_of d s) refl may refl) Ends)) tt
+    was a.history a.node x z.sends z.candidate sealed z.sealed r.applied r.chosen
 
 leader_stands_not : (ring : Layout) (id : ℕ) (d : Durable) (s : Soft) → may_elect ring id d s ≡ true → is_leader s.role ≡ false
 leader_stands_not ring id d s may = grind (arith, nat_tests)

@@ -1,5 +1,5 @@
 -- Each event keeps the invariant: it makes at most one node act, whose step owes nothing, or it moves a cursor alone; and it holds just the elections that the definition finds.
-use Rattle.std.proofs.Common.{◌≡◌, ℕ, ◌≤◌, [], ◌∷◌, ◌++◌, ◌∙◌, if◌then◌else◌, Bool, List, None, Option, Some, ap, append_assoc, arith, false, length, refl, subst, suc, sym, take, true, zero}
+use Rattle.std.proofs.Common.{◌<◌, ◌≡◌, ℕ, ◌≤◌, [], ◌∷◌, ◌++◌, ◌∙◌, if◌then◌else◌, Bool, List, None, Option, Some, ap, append_assoc, arith, false, length, refl, subst, suc, sym, take, true, zero}
 use Rattle.std.proofs.lemmas.List.{append-nil}
 use Rattle.std.specs.List.{Contains}
 use Rattle.ring_types.specs.declared.entries.Entry.{Entry}
@@ -23,37 +23,45 @@ use Rattle.ring_model.proofs.Lists.{none_contained}
 use Rattle.ring_model.proofs.Invariant.{As_leader, By_reply, HasAcked, History, IsNode, IsRunning, IsSealed, Nothing_yet}
 use Rattle.ring_model.proofs.Growth.{agree_less, agree_trans, grow_sealed}
 use Rattle.ring_model.proofs.Following.{agree_same}
-use Rattle.ring_model.proofs.Paths.{SameLog}
+use Rattle.ring_model.proofs.Paths.{IsLed, SameLog}
 use Rattle.ring_model.proofs.Turns.{IsWorld, TurnedTo, cut_keeps, down_keeps, restart_keeps, whole_keeps}
 use Rattle.ring_model.proofs.Dispatch.{IsGiven, step_row, step_whole}
 
 -- from a world with a history: the invariant holds after, nothing that was committed or led is lost, and these elections were held
-pub record Carried (ring : Layout) (w v : WorldState) (h : History) (held : List Election) : Type 0 where
+pub record Carried (ring : Layout) (w v : WorldState) (h : History) (held : List Election) (acted : Option (ℕ × Task)) : Type 0 where
   pub after : History
   pub world : IsWorld ring v after
   pub chosen : Agree (length w.chosen) w.chosen v.chosen
   pub led : (e : Election) → Contains h.elections e → Contains after.elections e
   pub sealed : (u c : ℕ) (l : List Entry) → IsSealed ring h u c l → IsSealed ring after u c l
   pub elections : after.elections ≡ h.elections ++ held
+  pub grew : length w.chosen < length v.chosen → (id : ℕ) (task : Task) → acted ≡ Some (id, task) → IsLed after id (v.nodes id).durable.term
 
-by_turn : (ring : Layout) (w v : WorldState) (h : History) (id : ℕ) (held : List Election) → TurnedTo ring w v h id held → Carried ring w v h held
-by_turn ring w v h id held x = record {
+-- the node that acted
+abbrev actor : Option (ℕ × Task) → ℕ
+actor None = 0
+actor (Some a) = a.0
+
+by_turn : (ring : Layout) (w v : WorldState) (h : History) (id : ℕ) (task : Task) (held : List Election) → TurnedTo ring w v h id held → Carried ring w v h held (Some (id, task))
+by_turn ring w v h id task held x = record {
   after = x.after;
   world = x.world;
   chosen = x.chosen;
   led = x.grows.elections;
   sealed = λ u c l y. grow_sealed ring id h x.after x.grows u u c l (omega arith) y;
   elections = x.elections;
+  grew = λ more other t is. let same : id ≡ other = ap actor is in subst (λ (i : ℕ). IsLed x.after i (v.nodes i).durable.term) same (x.grew more);
 }
 
-pub carried_join : (ring : Layout) (w v z : WorldState) (h : History) (a b : List Election) (x : Carried ring w v h a) → Carried ring v z x.after b → Carried ring w z h (a ++ b)
-carried_join ring w v z h a b x y = record {
+pub carried_join : (ring : Layout) (w v z : WorldState) (h : History) (a b : List Election) (acted next : Option (ℕ × Task)) (x : Carried ring w v h a acted) → Carried ring v z x.after b next → Carried ring w z h (a ++ b) None
+carried_join ring w v z h a b acted next x y = record {
   after = y.after;
   world = y.world;
   chosen = agree_trans (length w.chosen) w.chosen v.chosen z.chosen x.chosen (agree_less (length w.chosen) (length v.chosen) v.chosen z.chosen x.chosen.right y.chosen);
   led = λ e in_e. y.led e (x.led e in_e);
   sealed = λ u c l q. y.sealed u c l (x.sealed u c l q);
   elections = y.elections ∙ (ap (λ (e : List Election). e ++ b) x.elections ∙ append_assoc h.elections a b);
+  grew = λ more id task bad. absurd cc;
 }
 
 -- where nodes, messages and the chosen sequence stay
@@ -68,14 +76,15 @@ same_world ring w v h nodes messages chosen k = record {
 }
 
 -- an event that makes no node act, from a world that differs in its cursors alone
-passed_over : (ring : Layout) (w : WorldState) (h : History) → IsWorld ring w h → Carried ring w (passed w) h []
-passed_over ring w h k = record {
+passed_over : (ring : Layout) (w : WorldState) (h : History) (acted : Option (ℕ × Task)) → IsWorld ring w h → Carried ring w (passed w) h [] acted
+passed_over ring w h acted k = record {
   after = h;
   world = same_world ring w (passed w) h refl refl refl k;
   chosen = agree_same (length w.chosen) w.chosen (omega arith);
   led = λ e in_e. in_e;
   sealed = λ u c l x. x;
   elections = sym (append-nil h.elections);
+  grew = λ more id task is. absurd (omega arith);
 }
 
 -- ---- what a task does
@@ -90,14 +99,14 @@ restart_cut d count = go (stray_opids d) count
     go (o ∷ opids) (suc (suc n)) = record { term = refl; votes = refl; log = refl; applied = refl }
 
 handled_over : (ring : Layout) (w : WorldState) (h : History) (id : ℕ) (i : Input) (completion : Completion) (o : Option Soft) → (w.nodes id).soft ≡ o → IsWorld ring w h → IsGiven w.messages id i
-    → Carried ring w (handled ring w id i completion (w.nodes id).durable o) h (held_at ring id (w.nodes id).durable o (Handle i) completion)
-handled_over ring w h id i completion None up k given = passed_over ring w h k
+    → Carried ring w (handled ring w id i completion (w.nodes id).durable o) h (held_at ring id (w.nodes id).durable o (Handle i) completion) (Some (id, Handle i))
+handled_over ring w h id i completion None up k given = passed_over ring w h (Some (id, Handle i)) k
 handled_over ring w h id i Whole (Some s) up k given =
-    by_turn ring w (ended w id (w.nodes id).durable (step ring id (w.nodes id).durable s i) Whole) h id (held_by id (w.nodes id).durable s (step ring id (w.nodes id).durable s i) Whole)
+    by_turn ring w (ended w id (w.nodes id).durable (step ring id (w.nodes id).durable s i) Whole) h id (Handle i) (held_by id (w.nodes id).durable s (step ring id (w.nodes id).durable s i) Whole)
     (whole_keeps ring w h id s (step ring id (w.nodes id).durable s i) k
     (step_row ring h id (w.nodes id).durable s i k.history (k.nodes id) (k.running id s up) (subst (λ (ms : List Message). IsGiven ms id i) (sym k.messages) given)))
 handled_over ring w h id i (Cut count) (Some s) up k given =
-    by_turn ring w (ended w id (w.nodes id).durable (step ring id (w.nodes id).durable s i) (Cut count)) h id (held_by id (w.nodes id).durable s (step ring id (w.nodes id).durable s i) (Cut count))
+    by_turn ring w (ended w id (w.nodes id).durable (step ring id (w.nodes id).durable s i) (Cut count)) h id (Handle i) (held_by id (w.nodes id).durable s (step ring id (w.nodes id).durable s i) (Cut count))
     (cut_keeps ring w h id count s (step ring id (w.nodes id).durable s i) k
     (step_row ring h id (w.nodes id).durable s i k.history (k.nodes id) (k.running id s up) (subst (λ (ms : List Message). IsGiven ms id i) (sym k.messages) given)))
 
@@ -116,27 +125,27 @@ up_holds_none ring id d None completion = refl
 up_holds_none ring id d (Some s) completion = refl
 
 turn_over : (ring : Layout) (w : WorldState) (h : History) (id : ℕ) (task : Task) (completion : Completion) → IsWorld ring w h → MayTake w.messages id task
-    → Carried ring w (turn ring w id task completion) h (held_at ring id (w.nodes id).durable (w.nodes id).soft task completion)
+    → Carried ring w (turn ring w id task completion) h (held_at ring id (w.nodes id).durable (w.nodes id).soft task completion) (Some (id, task))
 turn_over ring w h id (Handle i) completion k given = handled_over ring w h id i completion (w.nodes id).soft refl k given
 turn_over ring w h id GoDown completion k given =
-    subst (λ (e : List Election). Carried ring w (turn ring w id GoDown completion) h e) (sym (down_holds_none ring id (w.nodes id).durable (w.nodes id).soft completion))
-    (by_turn ring w (turn ring w id GoDown completion) h id [] (down_keeps ring w h id (w.nodes id).durable [] (record { term = refl; votes = refl; log = refl; applied = refl }) k))
+    subst (λ (e : List Election). Carried ring w (turn ring w id GoDown completion) h e (Some (id, GoDown))) (sym (down_holds_none ring id (w.nodes id).durable (w.nodes id).soft completion))
+    (by_turn ring w (turn ring w id GoDown completion) h id GoDown [] (down_keeps ring w h id (w.nodes id).durable [] (record { term = refl; votes = refl; log = refl; applied = refl }) k))
 turn_over ring w h id ComeUp Whole k given =
-    subst (λ (e : List Election). Carried ring w (turn ring w id ComeUp Whole) h e) (sym (up_holds_none ring id (w.nodes id).durable (w.nodes id).soft Whole))
-    (by_turn ring w (turn ring w id ComeUp Whole) h id [] (restart_keeps ring w h id k))
+    subst (λ (e : List Election). Carried ring w (turn ring w id ComeUp Whole) h e (Some (id, ComeUp))) (sym (up_holds_none ring id (w.nodes id).durable (w.nodes id).soft Whole))
+    (by_turn ring w (turn ring w id ComeUp Whole) h id ComeUp [] (restart_keeps ring w h id k))
 turn_over ring w h id ComeUp (Cut count) k given =
-    subst (λ (e : List Election). Carried ring w (turn ring w id ComeUp (Cut count)) h e) (sym (up_holds_none ring id (w.nodes id).durable (w.nodes id).soft (Cut count)))
-    (by_turn ring w (turn ring w id ComeUp (Cut count)) h id []
+    subst (λ (e : List Election). Carried ring w (turn ring w id ComeUp (Cut count)) h e (Some (id, ComeUp))) (sym (up_holds_none ring id (w.nodes id).durable (w.nodes id).soft (Cut count)))
+    (by_turn ring w (turn ring w id ComeUp (Cut count)) h id ComeUp []
     (down_keeps ring w h id (all_done (w.nodes id).durable (take count (restart_actions (w.nodes id).durable))) (count ∷ []) (restart_cut (w.nodes id).durable count) k))
 
 -- only members act
 member_over : (ring : Layout) (w : WorldState) (h : History) (id : ℕ) (task : Task) (completion : Completion) → IsWorld ring w h → MayTake w.messages id task
-    → Carried ring w (member_turn ring w id task completion) h (acted_elections ring w completion (Some (id, task)))
+    → Carried ring w (member_turn ring w id task completion) h (acted_elections ring w completion (Some (id, task))) (Some (id, task))
 member_over ring w h id task completion k given = go (is_member ring id)
   where
-    go : (b : Bool) → Carried ring w (if b then turn ring w id task completion else passed w) h (if b then held_at ring id (w.nodes id).durable (w.nodes id).soft task completion else [])
+    go : (b : Bool) → Carried ring w (if b then turn ring w id task completion else passed w) h (if b then held_at ring id (w.nodes id).durable (w.nodes id).soft task completion else []) (Some (id, task))
     go true = turn_over ring w h id task completion k given
-    go false = passed_over ring w h k
+    go false = passed_over ring w h (Some (id, task)) k
 
 -- ---- a line
 in_number : (ms : List Message) (k : ℕ) (m : Message) → message_at ms k ≡ Some m → Contains ms m
@@ -146,32 +155,32 @@ in_number (x ∷ ms) (suc zero) m is = (zero, omega arith, cc)
 in_number (x ∷ ms) (suc (suc k)) m is = let y = in_number ms (suc k) m is in (suc y.0, omega (arith, y.1), y.2)
 
 given_over : (ring : Layout) (w : WorldState) (h : History) (completion : Completion) (number : ℕ) (o : Option Message) → message_at w.messages number ≡ o → IsWorld ring w h
-    → Carried ring w (given ring w completion o) h (acted_elections ring w completion (acts_on o))
-given_over ring w h completion number None is k = passed_over ring w h k
+    → Carried ring w (given ring w completion o) h (acted_elections ring w completion (acts_on o)) (acts_on o)
+given_over ring w h completion number None is k = passed_over ring w h None k
 given_over ring w h completion number (Some m) is k = member_over ring w h m.to (Handle (input.Deliver m)) completion k (in_number w.messages number m is, refl)
 
 -- a moved cursor changes nothing that is said of a world
-from_moved : (ring : Layout) (w z : WorldState) (h : History) (id number : ℕ) (held : List Election) → Carried ring (moved w id number) z h held → Carried ring w z h held
-from_moved ring w z h id number held x = record { after = x.after; world = x.world; chosen = x.chosen; led = x.led; sealed = x.sealed; elections = x.elections }
+from_moved : (ring : Layout) (w z : WorldState) (h : History) (id number : ℕ) (held : List Election) (acted : Option (ℕ × Task)) → Carried ring (moved w id number) z h held acted → Carried ring w z h held acted
+from_moved ring w z h id number held acted x = record { after = x.after; world = x.world; chosen = x.chosen; led = x.led; sealed = x.sealed; elections = x.elections; grew = x.grew }
 
 acts_same : (ring : Layout) (w : WorldState) (id number : ℕ) (completion : Completion) (o : Option (ℕ × Task)) → acted_elections ring (moved w id number) completion o ≡ acted_elections ring w completion o
 acts_same ring w id number completion None = refl
 acts_same ring w id number completion (Some a) = refl
 
 next_over : (ring : Layout) (w : WorldState) (h : History) (id : ℕ) (completion : Completion) (o : Option ℕ) → IsWorld ring w h
-    → Carried ring w (next_given ring w id completion o) h (acted_elections ring w completion (acts_on_number w o))
-next_over ring w h id completion None k = passed_over ring w h k
+    → Carried ring w (next_given ring w id completion o) h (acted_elections ring w completion (acts_on_number w o)) (acts_on_number w o)
+next_over ring w h id completion None k = passed_over ring w h None k
 next_over ring w h id completion (Some number) k =
-    from_moved ring w (next_given ring w id completion (Some number)) h id number (acted_elections ring w completion (acts_on_number w (Some number)))
-    (subst (λ (e : List Election). Carried ring (moved w id number) (next_given ring w id completion (Some number)) h e) (acts_same ring w id number completion (acts_on (message_at w.messages number)))
+    from_moved ring w (next_given ring w id completion (Some number)) h id number (acted_elections ring w completion (acts_on_number w (Some number))) (acts_on_number w (Some number))
+    (subst (λ (e : List Election). Carried ring (moved w id number) (next_given ring w id completion (Some number)) h e (acts_on (message_at w.messages number))) (acts_same ring w id number completion (acts_on (message_at w.messages number)))
     (given_over ring (moved w id number) h completion number (message_at w.messages number) refl (same_world ring w (moved w id number) h refl refl refl k)))
 
-skipped_over : (ring : Layout) (w : WorldState) (h : History) (id : ℕ) (o : Option ℕ) → IsWorld ring w h → Carried ring w (skipped w id o) h []
-skipped_over ring w h id None k = passed_over ring w h k
-skipped_over ring w h id (Some number) k = from_moved ring w (skipped w id (Some number)) h id number [] (passed_over ring (moved w id number) h (same_world ring w (moved w id number) h refl refl refl k))
+skipped_over : (ring : Layout) (w : WorldState) (h : History) (id : ℕ) (o : Option ℕ) → IsWorld ring w h → Carried ring w (skipped w id o) h [] None
+skipped_over ring w h id None k = passed_over ring w h None k
+skipped_over ring w h id (Some number) k = from_moved ring w (skipped w id (Some number)) h id number [] None (passed_over ring (moved w id number) h None (same_world ring w (moved w id number) h refl refl refl k))
 
-at_over : (ring : Layout) (w : WorldState) (h : History) (id : ℕ) (i : Input) (completion : Completion) → IsWorld ring w h → Carried ring w (at_node ring w id i completion) h (acted_elections ring w completion (acts_at id i))
-at_over ring w h id (input.Deliver m) completion k = passed_over ring w h k
+at_over : (ring : Layout) (w : WorldState) (h : History) (id : ℕ) (i : Input) (completion : Completion) → IsWorld ring w h → Carried ring w (at_node ring w id i completion) h (acted_elections ring w completion (acts_at id i)) (acts_at id i)
+at_over ring w h id (input.Deliver m) completion k = passed_over ring w h None k
 at_over ring w h id input.Elect completion k = member_over ring w h id (Handle input.Elect) completion k tt
 at_over ring w h id input.Beat completion k = member_over ring w h id (Handle input.Beat) completion k tt
 at_over ring w h id (input.Write client changes) completion k = member_over ring w h id (Handle (input.Write client changes)) completion k tt
@@ -179,7 +188,7 @@ at_over ring w h id (input.Rotate client) completion k = member_over ring w h id
 at_over ring w h id (input.Transfer client target) completion k = member_over ring w h id (Handle (input.Transfer client target)) completion k tt
 at_over ring w h id (input.Cancel client) completion k = member_over ring w h id (Handle (input.Cancel client)) completion k tt
 
-line_over : (ring : Layout) (w : WorldState) (h : History) (completion : Completion) (l : Line) → IsWorld ring w h → Carried ring w (line_step ring w completion l) h (acted_elections ring w completion (acting w l))
+line_over : (ring : Layout) (w : WorldState) (h : History) (completion : Completion) (l : Line) → IsWorld ring w h → Carried ring w (line_step ring w completion l) h (acted_elections ring w completion (acting w l)) (acting w l)
 line_over ring w h completion (line.At node i) k = at_over ring w h node i completion k
 line_over ring w h completion (line.Give number) k = given_over ring w h completion number (message_at w.messages number) refl k
 line_over ring w h completion (line.Next node) k = next_over ring w h node completion (next_to w node) k
@@ -188,7 +197,7 @@ line_over ring w h completion (line.Again node) k = given_over ring w h completi
 line_over ring w h completion (line.Crash node) k = member_over ring w h node GoDown completion k tt
 line_over ring w h completion (line.Restart node) k = member_over ring w h node ComeUp completion k tt
 
-pub event_over : (ring : Layout) (w : WorldState) (h : History) (m : Move) → IsWorld ring w h → Carried ring w (world_step ring w m.event m.completion) h (event_elections ring w m)
+pub event_over : (ring : Layout) (w : WorldState) (h : History) (m : Move) → IsWorld ring w h → Carried ring w (world_step ring w m.event m.completion) h (event_elections ring w m) (acting w m.event.what)
 unfolding world_step
 event_over ring w h m k = line_over ring w h m.completion m.event.what k
 

@@ -24,9 +24,9 @@ closure_keeps ring (suc n) regions pool x c = go ring n regions pool x c (closur
     go ring n regions pool x c ih (p ∷ ps) is = rw (is, closure) (ih (regions_of (p ∷ ps) ++ regions) (filter (is_unheard ring regions) pool) x (Contains-append_right (regions_of (p ∷ ps)) regions x c))
 
 -- ---- what is heard at the end is in the set
-parts : {X : Type 0} (p : X → Bool) (xs : List X) → length (filter p xs) + length (filter (λ x. not (p x)) xs) ≡ length xs
-parts p [] = refl
-parts p (x ∷ xs) = go p x xs (parts p xs) (p x) refl
+filter_parts : {X : Type 0} (p : X → Bool) (xs : List X) → length (filter p xs) + length (filter (λ x. not (p x)) xs) ≡ length xs
+filter_parts p [] = refl
+filter_parts p (x ∷ xs) = go p x xs (filter_parts p xs) (p x) refl
   where
     go : {X : Type 0} (p : X → Bool) (x : X) (xs : List X) → length (filter p xs) + length (filter (λ y. not (p y)) xs) ≡ length xs → (b : Bool) → p x ≡ b
         → length (filter p (x ∷ xs)) + length (filter (λ y. not (p y)) (x ∷ xs)) ≡ length (x ∷ xs)
@@ -60,7 +60,7 @@ closure_hears ring (suc n) regions pool p le c t = go ring n regions pool p le c
     go ring n regions pool p le c ih (q ∷ qs) is t =
         let rest = filter (is_unheard ring regions) pool in
         let more = regions_of (q ∷ qs) ++ regions in
-        let short : length rest ≤ n = omega (arith, parts (is_heard ring regions) pool, ap length is) in
+        let short : length rest ≤ n = omega (arith, filter_parts (is_heard ring regions) pool, ap length is) in
         rw (is, closure) (later ring n regions pool p q qs c is (is_heard ring regions p) refl (λ d. ih more rest p short d (let v = rw (is, closure) at t in v)))
       where
         later : (ring : Layout) (n : ℕ) (regions : List ℕ) (pool : List Report) (p q : Report) (qs : List Report) → Contains pool p → filter (is_heard ring regions) pool ≡ q ∷ qs → (b : Bool) → is_heard ring regions p ≡ b

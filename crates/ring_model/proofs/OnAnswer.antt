@@ -144,6 +144,7 @@ more_row ring h id to term d s st row =
       role = role_sent ring row.sent m id (all_done d st.plan.actions) st.soft st.soft.role row.role;
       sealed = sealed_sent ring row.sent m (all_done d st.plan.actions).term st.soft.commit (all_done d st.plan.actions).log row.sealed;
       applied = row.applied;
+      reaches = row.reaches;
       holding = row.holding;
     }
 
@@ -156,6 +157,7 @@ none_more_row ring h id d s st row = record {
   role = row.role;
   sealed = row.sealed;
   applied = row.applied;
+  reaches = row.reaches;
   holding = row.holding;
 }
 

@@ -197,24 +197,25 @@ greater_high a b = go (nat_le a b) refl
     go true is = rw is (grind (arith, nat_tests, is))
     go false is = rw is (omega arith)
 
-no_sent : (ring : Layout) (h : History) (id to t p : ℕ) (d : Durable) → Sends ring id d h (reply id to t false p ∷ []) (with_message h (reply id to t false p))
-no_sent ring h id to t p d = Sends_on {m = reply id to t false p} (λ bad. absurd (let z : false ≡ true = bad in cc)) (record { from = refl; answers = λ u v bad. absurd (let z : false ≡ true = ap is_ok bad in cc) }) Sent_all
+refusal_sent : (ring : Layout) (h : History) (id to t p : ℕ) (d : Durable) → Sends ring id d h (reply id to t false p ∷ []) (with_message h (reply id to t false p))
+refusal_sent ring h id to t p d = Sends_on {m = reply id to t false p} (λ bad. absurd (let z : false ≡ true = bad in cc)) (record { from = refl; answers = λ u v bad. absurd (let z : false ≡ true = ap is_ok bad in cc) }) Sent_all
   where
     is_ok : Body → Bool
     is_ok (body.AppendReply answer) = answer.ok
     is_ok b = true
 
-no_row : (ring : Layout) (h : History) (id to t p : ℕ) (d : Durable) (o s : Soft) (first : List Action) (says : List Say) (q : Path ring id h d first h) → IsBefore ring id h h d first q → (is_leader o.role ≡ true) ⊎ (is_leader s.role ≡ false)
-    → HasRole h id (all_done d first) s s.role → IsSealed ring h (all_done d first).term s.commit (all_done d first).log → (all_done d first).applied ≤ s.commit
+refusing_row : (ring : Layout) (h : History) (id to t p : ℕ) (d : Durable) (o s : Soft) (first : List Action) (says : List Say) (q : Path ring id h d first h) → IsBefore ring id h h d first q → (is_leader o.role ≡ true) ⊎ (is_leader s.role ≡ false)
+    → HasRole h id (all_done d first) s s.role → IsSealed ring h (all_done d first).term s.commit (all_done d first).log → (all_done d first).applied ≤ s.commit → s.commit ≤ length h.chosen
     → IsRow ring h id d o (stepped first (reply id to t false p ∷ []) says s)
-no_row ring h id to t p d o s first says q before standing role sealed applied = record {
+refusing_row ring h id to t p d o s first says q before standing role sealed applied low = record {
   acted = h;
   path = q;
   sent = with_message h (reply id to t false p);
-  sends = no_sent ring h id to t p (all_done d first);
+  sends = refusal_sent ring h id to t p (all_done d first);
   role = role_sent ring h (reply id to t false p) id (all_done d first) s s.role role;
   sealed = sealed_sent ring h (reply id to t false p) (all_done d first).term s.commit (all_done d first).log sealed;
   applied = applied;
+  reaches = inl low;
   holding = elim standing [
     | inl led ↦ Led_before led (before_quiet ring id h h d first q before)
     | inr not_led ↦ Leads_not not_led (before_quiet ring id h h d first q before)
@@ -223,10 +224,10 @@ no_row ring h id to t p d o s first says q before standing role sealed applied =
 
 -- an Append whose previous opid the log has
 accept_row : (ring : Layout) (h : History) (id : ℕ) (sent : Append) (d : Durable) (o s : Soft) (first : List Action) (says : List Say) → IsHistory ring h → (p : Path ring id h d first h) → IsBefore ring id h h d first p → IsNode ring h id (all_done d first)
-    → (all_done d first).term ≡ sent.term → (all_done d first).log ≡ d.log → s.role ≡ Follower → IsSealed ring h (all_done d first).term s.commit (all_done d first).log → (all_done d first).applied ≤ s.commit
+    → (all_done d first).term ≡ sent.term → (all_done d first).log ≡ d.log → s.role ≡ Follower → IsSealed ring h (all_done d first).term s.commit (all_done d first).log → (all_done d first).applied ≤ s.commit → s.commit ≤ length h.chosen
     → IsStretch ring h (all_done d first).term sent.leader sent.prev sent.commit (length sent.entries) → take (length sent.entries) (drop sent.prev.position (h.book (all_done d first).term)) ≡ sent.entries → (sent.leader ≡ id → ⊥)
     → Agree sent.prev.position (all_done d first).log (h.book (all_done d first).term) → IsRow ring h id d o (accept ring id d s first says sent)
-accept_row ring h id sent d o s first says k p before n is_t same_log role sealed applied stretch win foreign a =
+accept_row ring h id sent d o s first says k p before n is_t same_log role sealed applied low_chosen stretch win foreign a =
     let e : Durable = all_done d first in
     let rest = unmatched d.log sent.prev.position sent.entries in
     let kept = kept_position sent.prev sent.entries rest in
@@ -241,7 +242,8 @@ accept_row ring h id sent d o s first says k p before n is_t same_log role seale
     subst (λ (u : ℕ). IsSealed ring h u c f.log) (sym x.term)
     (greater_by (λ (b : ℕ). IsSealed ring h e.term b f.log) s.commit (smaller_of sent.commit m) x.sealed
     (commit_new ring h id e k n sent.leader sent.prev sent.commit sent.entries stretch win foreign a (smaller_of sent.commit m) f.log low.0 low.1 x.agrees)) in
-    let y = follow_path ring id id h f c (omega (arith, x.applied, greater_high s.commit (smaller_of sent.commit m))) new in
+    let within : c ≤ length h.chosen = greater_by (λ (b : ℕ). b ≤ length h.chosen) s.commit (smaller_of sent.commit m) low_chosen (omega (arith, low.0, stretch.chosen)) in
+    let y = follow_path ring id id h f c (omega (arith, x.applied, greater_high s.commit (smaller_of sent.commit m))) new (inl within) in
     let g : Durable = all_done f (follow_actions ring id f c) in
     let j : all_done d (first ++ (acts ++ follow_actions ring id f c)) ≡ g = done_join d first (acts ++ follow_actions ring id f c) ∙ done_join e acts (follow_actions ring id f c) in
     let tail : Path ring id h e (acts ++ follow_actions ring id f c) h = path_join ring id h h h e acts (follow_actions ring id f c) x.path y.path in
@@ -273,6 +275,7 @@ accept_row ring h id sent d o s first says k p before n is_t same_log role seale
           (subst (λ (w : Durable). IsSealed ring h w.term c w.log) (sym j)
           (subst (λ (u : ℕ). IsSealed ring h u c g.log) (sym y.after.term) (subst (λ (l : List Entry). IsSealed ring h f.term c l) (sym y.after.log) new)));
       applied = subst (λ (w : Durable). w.applied ≤ c) (sym j) y.after.applied;
+      reaches = inl within;
       holding = Leads_not (ap is_leader role) quiet;
     }
   where
@@ -286,9 +289,9 @@ accept_row ring h id sent d o s first says k p before n is_t same_log role seale
 
 -- an Append once the node has its term
 match_row : (ring : Layout) (h : History) (id : ℕ) (sent : Append) (d : Durable) (o s : Soft) (first : List Action) (says : List Say) → IsHistory ring h → (p : Path ring id h d first h) → IsBefore ring id h h d first p → IsNode ring h id (all_done d first)
-    → (all_done d first).term ≡ sent.term → (all_done d first).log ≡ d.log → s.role ≡ Follower → IsSealed ring h (all_done d first).term s.commit (all_done d first).log → (all_done d first).applied ≤ s.commit
+    → (all_done d first).term ≡ sent.term → (all_done d first).log ≡ d.log → s.role ≡ Follower → IsSealed ring h (all_done d first).term s.commit (all_done d first).log → (all_done d first).applied ≤ s.commit → s.commit ≤ length h.chosen
     → IsSent ring h sent.leader id (body.Append sent) → (sent.leader ≡ id → ⊥) → IsRow ring h id d o (match_append ring id d s first says sent)
-match_row ring h id sent d o s first says k p before n is_t same role sealed applied told foreign =
+match_row ring h id sent d o s first says k p before n is_t same role sealed applied low told foreign =
     go (nat_lt (length d.log) sent.prev.position) refl (term_at d.log sent.prev.position == sent.prev.term) refl
   where
     follower : HasRole h id (all_done d first) s s.role
@@ -297,15 +300,15 @@ match_row ring h id sent d o s first says k p before n is_t same role sealed app
     go : (a : Bool) → nat_lt (length d.log) sent.prev.position ≡ a → (b : Bool) → (term_at d.log sent.prev.position == sent.prev.term) ≡ b
         → IsRow ring h id d o (if a then stepped first (reply id sent.leader sent.term false (length d.log) ∷ []) says s
         else (if b then accept ring id d s first says sent else stepped first (reply id sent.leader sent.term false (sent.prev.position - 1) ∷ []) says s))
-    go true x b y = no_row ring h id sent.leader sent.term (length d.log) d o s first says p before (inr (ap is_leader role)) follower sealed applied
-    go false x false y = no_row ring h id sent.leader sent.term (sent.prev.position - 1) d o s first says p before (inr (ap is_leader role)) follower sealed applied
+    go true x b y = refusing_row ring h id sent.leader sent.term (length d.log) d o s first says p before (inr (ap is_leader role)) follower sealed applied low
+    go false x false y = refusing_row ring h id sent.leader sent.term (sent.prev.position - 1) d o s first says p before (inr (ap is_leader role)) follower sealed applied low
     go false x true y =
         let stretch : IsStretch ring h (all_done d first).term sent.leader sent.prev sent.commit (length sent.entries) = subst (λ (u : ℕ). IsStretch ring h u sent.leader sent.prev sent.commit (length sent.entries)) (sym is_t) told.0 in
         let win : take (length sent.entries) (drop sent.prev.position (h.book (all_done d first).term)) ≡ sent.entries = subst (λ (u : ℕ). take (length sent.entries) (drop sent.prev.position (h.book u)) ≡ sent.entries) (sym is_t) told.1 in
         let le : sent.prev.position ≤ length (all_done d first).log = (let z : sent.prev.position ≤ length d.log = grind (arith, nat_tests, x) in omega (arith, ap length same)) in
         let at : term_at (all_done d first).log sent.prev.position ≡ sent.prev.term = ap (λ (l : List Entry). term_at l sent.prev.position) same ∙ grind (arith, nat_tests, y) in
         let a = prev_agrees ring h id (all_done d first) k n sent.leader sent.prev sent.commit sent.entries stretch win foreign sent.prev.position refl le at in
-        accept_row ring h id sent d o s first says k p before n is_t same role sealed applied stretch win foreign a
+        accept_row ring h id sent d o s first says k p before n is_t same role sealed applied low stretch win foreign a
 
 follow_row : (ring : Layout) (h : History) (id : ℕ) (sent : Append) (d : Durable) (s : Soft) → nat_lt sent.term d.term ≡ false → IsHistory ring h → IsNode ring h id d → IsRunning ring h id d s
     → IsSent ring h sent.leader id (body.Append sent) → (sent.leader ≡ id → ⊥) → IsRow ring h id d s (follow_append ring id d s sent)
@@ -316,10 +319,10 @@ follow_row ring h id sent d s x k n r told foreign = go (nat_lt d.term sent.term
         else elim o [ Follower ↦ match_append ring id d s [] [] sent | Candidate ↦ match_append ring id d (demoted s) [] (unknowns s) sent | Leader ↦ idle s ])
     go true y o z =
         let up : d.term < sent.term = grind (arith, nat_tests, y) in
-        match_row ring h id sent d s (demoted s) (action.SetTerm sent.term ∷ []) (unknowns s) k (Goes_on (Raises sent.term refl up refl) Ends) tt (raise_keeps ring h id sent.term d up n) refl refl refl
-        (seal_raise ring h d.term sent.term s.commit d.log (omega arith) r.sealed) r.applied told foreign
-    go false y Follower z = let is : d.term ≡ sent.term = grind (arith, nat_tests, x, y) in match_row ring h id sent d s s [] [] k Ends tt n is refl z r.sealed r.applied told foreign
-    go false y Candidate z = let is : d.term ≡ sent.term = grind (arith, nat_tests, x, y) in match_row ring h id sent d s (demoted s) [] (unknowns s) k Ends tt n is refl refl r.sealed r.applied told foreign
+        match_row ring h id sent d s (demoted s) (action.SetTerm sent.term ∷ []) (unknowns s) k (Goes_on (Raises sent.term refl up (omega (arith, r.applied, r.chosen)) refl) Ends) tt (raise_keeps ring h id sent.term d up n) refl refl refl
+        (seal_raise ring h d.term sent.term s.commit d.log (omega arith) r.sealed) r.applied r.chosen told foreign
+    go false y Follower z = let is : d.term ≡ sent.term = grind (arith, nat_tests, x, y) in match_row ring h id sent d s s [] [] k Ends tt n is refl z r.sealed r.applied r.chosen told foreign
+    go false y Candidate z = let is : d.term ≡ sent.term = grind (arith, nat_tests, x, y) in match_row ring h id sent d s (demoted s) [] (unknowns s) k Ends tt n is refl refl r.sealed r.applied r.chosen told foreign
     go false y Leader z = idle_row ring h id d s r
 
 leader_or_not : (s : Soft) → (is_leader s.role ≡ true) ⊎ (is_leader s.role ≡ false)
@@ -337,7 +340,7 @@ append_row ring h id sent d s k n r told foreign = go (outgrows d sent) (nat_lt 
     go : (a b : Bool) → nat_lt sent.term d.term ≡ b → (c : Bool) (t : Option Tear)
         → IsRow ring h id d s (if a then idle s else (if b then stepped [] (reply id sent.leader d.term false 0 ∷ []) [] s else (if c then idle s else elim t [ Some t ↦ idle s | None ↦ follow_append ring id d s sent ])))
     go true b x c t = idle_row ring h id d s r
-    go false true x c t = no_row ring h id sent.leader d.term 0 d s s [] [] Ends tt (leader_or_not s) r.role r.sealed r.applied
+    go false true x c t = refusing_row ring h id sent.leader d.term 0 d s s [] [] Ends tt (leader_or_not s) r.role r.sealed r.applied r.chosen
     go false false x true t = idle_row ring h id d s r
     go false false x false (Some t) = idle_row ring h id d s r
     go false false x false None = follow_row ring h id sent d s x k n r told foreign

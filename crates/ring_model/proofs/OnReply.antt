@@ -47,7 +47,7 @@ reply_row ring h id from reply d s k n r sent = go s.role refl
     count role true is =
         let two = counts_grant reply.granted (reply.term == d.term) (has_granted s.grants from) is in
         let x = joins role two.0 (grind (arith, nat_tests, two.1)) in
-        ask_row ring h h h id d s s [] [] (s.grants ++ record { voter = from; votes = reply.votes } ∷ []) [] Ends tt (ap is_leader role) k n x Sent_all x r.sealed r.sealed r.applied
+        ask_row ring h h h id d s s [] [] (s.grants ++ record { voter = from; votes = reply.votes } ∷ []) [] Ends tt (ap is_leader role) k n x Sent_all x r.sealed r.sealed r.applied r.chosen
 
     hears : s.role ≡ Candidate → (a : Bool) → nat_lt d.term reply.term ≡ a → IsRow ring h id d s (if a then stepped (action.SetTerm reply.term ∷ []) [] (unknowns s) (demoted s) else count_grant ring id d s from reply)
     hears role true is = raise_row ring h id reply.term d s (grind (arith, nat_tests, is)) r

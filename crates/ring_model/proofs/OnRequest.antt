@@ -1,5 +1,5 @@
 -- A voter that answers a request: a new vote reports all votes of terms in between, and a vote kept for the term was asked for just as this request asks.
-use Rattle.std.proofs.Common.{◌≡◌, ℕ, ◌<◌, ◌≤◌, ◌==◌, ◌⊎◌, [], ◌∷◌, ◌++◌, ◌∙◌, if◌then◌else◌, Bool, List, None, Option, Some, ap, arith, false, inl, inr, refl, subst, suc, sym, true, zero}
+use Rattle.std.proofs.Common.{length, ◌≡◌, ℕ, ◌<◌, ◌≤◌, ◌==◌, ◌⊎◌, [], ◌∷◌, ◌++◌, ◌∙◌, if◌then◌else◌, Bool, List, None, Option, Some, ap, arith, false, inl, inr, refl, subst, suc, sym, true, zero}
 use Rattle.std.proofs.lemmas.List.Elements.{Contains-push}
 use Rattle.std.proofs.lemmas.Bool.Decides.{nat_tests}
 use Rattle.std.specs.List.{Contains}
@@ -83,7 +83,7 @@ role_cast ring h c floor id d s Leader g x = leader_at (with_cast h c) id d (don
 module _ (ring : Layout) (h : History) (id from : ℕ) (asked : RequestVote) (d : Durable) (o s : Soft) (first : List Action) (says : List Say) (k : IsHistory ring h) (sent : IsSent ring h from id (body.RequestVote asked))
     (p : Path ring id h d first h) (before : IsBefore ring id h h d first p) (standing : (is_leader o.role ≡ true) ⊎ (is_leader s.role ≡ false)) (n : IsNode ring h id (all_done d first)) (is_t : (all_done d first).term ≡ asked.term)
     (same_log : (all_done d first).log ≡ d.log) (same_votes : (all_done d first).votes ≡ d.votes)
-    (role : HasRole h id (all_done d first) s s.role) (sealed : IsSealed ring h (all_done d first).term s.commit (all_done d first).log) (applied : (all_done d first).applied ≤ s.commit) where
+    (role : HasRole h id (all_done d first) s s.role) (sealed : IsSealed ring h (all_done d first).term s.commit (all_done d first).log) (applied : (all_done d first).applied ≤ s.commit) (low : s.commit ≤ length h.chosen) where
   quiet_standing : (m : History) (steps : List Action) (path : Path ring id h d steps m) → elected ring id h m d steps path ≡ [] → Holding ring id h m d o s steps path
   quiet_standing m steps path none = elim standing [ inl led ↦ Led_before led none | inr not_led ↦ Leads_not not_led none ]
 
@@ -96,6 +96,7 @@ module _ (ring : Layout) (h : History) (id from : ℕ) (asked : RequestVote) (d 
     role = role_sent ring h (refuse_vote id from asked.term) id (all_done d first) s s.role role;
     sealed = sealed_sent ring h (refuse_vote id from asked.term) (all_done d first).term s.commit (all_done d first).log sealed;
     applied = applied;
+    reaches = inl low;
     holding = quiet_standing h first p (before_quiet ring id h h d first p before);
   }
 
@@ -113,6 +114,7 @@ module _ (ring : Layout) (h : History) (id from : ℕ) (asked : RequestVote) (d 
         role = role_sent ring h (grant_vote id from asked e) id e s s.role role;
         sealed = sealed_sent ring h (grant_vote id from asked e) e.term s.commit e.log sealed;
         applied = applied;
+        reaches = inl low;
         holding = quiet_standing h first p (before_quiet ring id h h d first p before);
       }
 
@@ -152,6 +154,7 @@ module _ (ring : Layout) (h : History) (id from : ℕ) (asked : RequestVote) (d 
         sealed = subst (λ (w : Durable). IsSealed ring (with_message m answer) w.term s.commit w.log) (sym j)
             (sealed_sent ring m answer e.term s.commit e.log (grow_sealed ring id h m a.grows e.term e.term s.commit e.log (omega arith) sealed));
         applied = subst (λ (w : Durable). w.applied ≤ s.commit) (sym j) applied;
+        reaches = inl low;
         holding = quiet_standing m (first ++ (vote ∷ [])) (path_join ring id h h m d first (vote ∷ []) p (Goes_on (Votes c (floor_of d s) refl may refl) Ends))
             (quiet_join ring id h h m d first (vote ∷ []) p (Goes_on (Votes c (floor_of d s) refl may refl) Ends) (before_quiet ring id h h d first p before) refl);
       } in
@@ -199,15 +202,16 @@ request_row ring h id from asked d s k n r sent = voter (votes ring id)
       role = role_sent ring h (refuse_vote id from d.term) id d s s.role r.role;
       sealed = sealed_sent ring h (refuse_vote id from d.term) d.term s.commit d.log r.sealed;
       applied = r.applied;
+      reaches = inl r.chosen;
       holding = stays_holding ring id h d s s refl;
     }
     go false x true y =
         let up : d.term < asked.term = grind (arith, nat_tests, y) in
-        answer_row ring h id from asked d s (demoted s) (action.SetTerm asked.term ∷ []) (unknowns s) k sent (Goes_on (Raises asked.term refl up refl) Ends) tt (inr refl) (raise_keeps ring h id asked.term d up n) refl refl refl tt
-        (seal_raise ring h d.term asked.term s.commit d.log (omega arith) r.sealed) r.applied
+        answer_row ring h id from asked d s (demoted s) (action.SetTerm asked.term ∷ []) (unknowns s) k sent (Goes_on (Raises asked.term refl up (omega (arith, r.applied, r.chosen)) refl) Ends) tt (inr refl) (raise_keeps ring h id asked.term d up n) refl refl refl tt
+        (seal_raise ring h d.term asked.term s.commit d.log (omega arith) r.sealed) r.applied r.chosen
     go false x false y =
         let is : d.term ≡ asked.term = grind (arith, nat_tests, x, y) in
-        answer_row ring h id from asked d s s [] [] k sent Ends tt as_it_is n is refl refl r.role r.sealed r.applied
+        answer_row ring h id from asked d s s [] [] k sent Ends tt as_it_is n is refl refl r.role r.sealed r.applied r.chosen
 
     voter : (b : Bool) → IsRow ring h id d s (if b then voter_answers ring id d s from asked else idle s)
     voter true = go (nat_lt asked.term d.term) refl (nat_lt d.term asked.term) refl

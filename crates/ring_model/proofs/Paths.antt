@@ -1,6 +1,7 @@
 -- A step's actions as guarded moves, each of which keeps the invariant; so each beginning of them does, and only a winning move holds an election.
-use Rattle.std.proofs.Common.{◌≡◌, ℕ, ◌<◌, ◌≤◌, [], ◌∷◌, ◌++◌, ◌∙◌, List, ap, append_assoc, arith, inl, inr, length, refl, subst, suc, sym, take, zero}
+use Rattle.std.proofs.Common.{◌⊎◌, ◌≡◌, ℕ, ◌<◌, ◌≤◌, [], ◌∷◌, ◌++◌, ◌∙◌, List, ap, append_assoc, arith, inl, inr, length, refl, subst, suc, sym, take, zero}
 use Rattle.std.proofs.lemmas.List.{append-nil}
+use Rattle.std.proofs.lemmas.List.Elements.{Contains-append_left}
 use Rattle.std.specs.List.{Contains}
 use Rattle.ring_types.specs.declared.entries.Entry.{Entry}
 use Rattle.ring_types.specs.declared.entries.Grant.{Grant}
@@ -36,15 +37,23 @@ pub record MayFollow (ring : Layout) (h : History) (id : ℕ) (d : Durable) (l :
   pub follows : IsFollowed d.log l (h.book d.term)
   pub log : IsBookedLog ring h d.term l
 
+-- the node led this term
+abbrev pub IsLed : History → ℕ → ℕ → Type 0
+IsLed h id t = (e : Election) × Contains h.elections e × (e.node ≡ id) × (e.term ≡ t)
+
+-- only a node that led the term reaches beyond the chosen sequence
+abbrev pub MayReach : History → ℕ → ℕ → ℕ → Type 0
+MayReach h id t p = (p ≤ length h.chosen) ⊎ IsLed h id t
+
 -- one action, and what allows it
 pub data Guarded (ring : Layout) (id : ℕ) (h : History) (d : Durable) (a : Action) (g : History) : Type 0 where
-  Raises : (t : ℕ) → a ≡ action.SetTerm t → d.term < t → g ≡ h → Guarded ring id h d a g
+  Raises : (t : ℕ) → a ≡ action.SetTerm t → d.term < t → d.applied ≤ length h.chosen → g ≡ h → Guarded ring id h d a g
   Votes : (c : Cast) (floor : ℕ) → a ≡ action.Vote c.vote floor → MayVote ring h id d c floor → g ≡ with_cast h c → Guarded ring id h d a g
   Leads : (e : Election) (x : Entry) → a ≡ action.Append (x ∷ []) → MayLead ring h id d e x → g ≡ with_election h e (d.log ++ x ∷ []) → Guarded ring id h d a g
   Adds : (e : Election) (x : Entry) → a ≡ action.Append (x ∷ []) → MayAdd ring h id d e x → g ≡ with_book h d.term (d.log ++ x ∷ []) → Guarded ring id h d a g
   Cuts : (p : ℕ) → a ≡ action.Truncate p → MayFollow ring h id d (take p d.log) → g ≡ h → Guarded ring id h d a g
   Extends : (es : List Entry) → a ≡ action.Append es → MayFollow ring h id d (d.log ++ es) → g ≡ h → Guarded ring id h d a g
-  Applies : (p : ℕ) → a ≡ action.Commit p → IsSealed ring h d.term p d.log → g ≡ h → Guarded ring id h d a g
+  Applies : (p : ℕ) → a ≡ action.Commit p → IsSealed ring h d.term p d.log → MayReach h id d.term p → g ≡ h → Guarded ring id h d a g
   Engine : SameLog d (done d a) → g ≡ h → Guarded ring id h d a g
 
 -- the history, the node that acts, and who acted
@@ -114,7 +123,7 @@ still : (ring : Layout) (id : ℕ) (h : History) (d : Durable) → IsHistory rin
 still ring id h d k n = record { history = k; node = n; grows = grows_refl id h }
 
 pub guarded_keeps : (ring : Layout) (id : ℕ) (h g : History) (d : Durable) (a : Action) → IsHistory ring h → IsNode ring h id d → Guarded ring id h d a g → Holds ring id h g (done d a)
-guarded_keeps ring id h g d a k n (Raises t is up same) =
+guarded_keeps ring id h g d a k n (Raises t is up low same) =
     said_move ring id h g h d a (action.SetTerm t) is same (still ring id h (done d (action.SetTerm t)) k (raise_keeps ring h id t d up n))
 guarded_keeps ring id h g d a k n (Votes c floor is may same) =
     said_move ring id h g (with_cast h c) d a (action.Vote c.vote floor) is same
@@ -131,7 +140,7 @@ guarded_keeps ring id h g d a k n (Cuts p is may same) =
 guarded_keeps ring id h g d a k n (Extends es is may same) =
     said_move ring id h g h d a (action.Append es) is same
     (still ring id h (done d (action.Append es)) k (follow_keeps ring h id d (d.log ++ es) k n may.leader may.led may.of_term may.not_mine may.follows may.log))
-guarded_keeps ring id h g d a k n (Applies p is s same) =
+guarded_keeps ring id h g d a k n (Applies p is s may same) =
     said_move ring id h g h d a (action.Commit p) is same
     (still ring id h (done d (action.Commit p)) k (same_node ring h id (record d { applied = p }) (done d (action.Commit p)) (record { term = refl; votes = refl; log = refl; applied = refl }) (apply_keeps ring h id p d n s)))
 guarded_keeps ring id h g d a k n (Engine s same) =
@@ -157,13 +166,13 @@ path_cut ring id h g d (a ∷ rest) (suc n) (Goes_on {g = m} move path) = let x 
 
 -- no action sends or chooses
 guarded_still : (ring : Layout) (id : ℕ) (h g : History) (d : Durable) (a : Action) → Guarded ring id h d a g → (g.messages ≡ h.messages) × (g.chosen ≡ h.chosen)
-guarded_still ring id h g d a (Raises t is up same) = (ap (λ (w : History). w.messages) same, ap (λ (w : History). w.chosen) same)
+guarded_still ring id h g d a (Raises t is up low same) = (ap (λ (w : History). w.messages) same, ap (λ (w : History). w.chosen) same)
 guarded_still ring id h g d a (Votes c floor is may same) = (ap (λ (w : History). w.messages) same, ap (λ (w : History). w.chosen) same)
 guarded_still ring id h g d a (Leads e x is may same) = (ap (λ (w : History). w.messages) same, ap (λ (w : History). w.chosen) same)
 guarded_still ring id h g d a (Adds e x is may same) = (ap (λ (w : History). w.messages) same, ap (λ (w : History). w.chosen) same)
 guarded_still ring id h g d a (Cuts p is may same) = (ap (λ (w : History). w.messages) same, ap (λ (w : History). w.chosen) same)
 guarded_still ring id h g d a (Extends es is may same) = (ap (λ (w : History). w.messages) same, ap (λ (w : History). w.chosen) same)
-guarded_still ring id h g d a (Applies p is s same) = (ap (λ (w : History). w.messages) same, ap (λ (w : History). w.chosen) same)
+guarded_still ring id h g d a (Applies p is s may same) = (ap (λ (w : History). w.messages) same, ap (λ (w : History). w.chosen) same)
 guarded_still ring id h g d a (Engine s same) = (ap (λ (w : History). w.messages) same, ap (λ (w : History). w.chosen) same)
 
 pub path_messages : (ring : Layout) (id : ℕ) (h g : History) (d : Durable) (steps : List Action) → Path ring id h d steps g → g.messages ≡ h.messages
@@ -177,13 +186,13 @@ path_chosen ring id h g d (a ∷ rest) (Goes_on {g = m} move path) = path_chosen
 -- ---- elections on the way
 -- the election that a move holds
 abbrev pub elects : (ring : Layout) (id : ℕ) (h g : History) (d : Durable) (a : Action) → Guarded ring id h d a g → List Election
-elects ring id h g d a (Raises t is up same) = []
+elects ring id h g d a (Raises t is up low same) = []
 elects ring id h g d a (Votes c floor is may same) = []
 elects ring id h g d a (Leads e x is may same) = e ∷ []
 elects ring id h g d a (Adds e x is may same) = []
 elects ring id h g d a (Cuts p is may same) = []
 elects ring id h g d a (Extends es is may same) = []
-elects ring id h g d a (Applies p is s same) = []
+elects ring id h g d a (Applies p is s may same) = []
 elects ring id h g d a (Engine s same) = []
 
 abbrev pub elected : (ring : Layout) (id : ℕ) (h g : History) (d : Durable) (steps : List Action) → Path ring id h d steps g → List Election
@@ -191,13 +200,13 @@ elected ring id h g d [] Ends = []
 elected ring id h g d (a ∷ rest) (Goes_on {g = m} move path) = elects ring id h m d a move ++ elected ring id m g (done d a) rest path
 
 guarded_elections : (ring : Layout) (id : ℕ) (h g : History) (d : Durable) (a : Action) (move : Guarded ring id h d a g) → g.elections ≡ h.elections ++ elects ring id h g d a move
-guarded_elections ring id h g d a (Raises t is up same) = ap (λ (w : History). w.elections) same ∙ sym (append-nil h.elections)
+guarded_elections ring id h g d a (Raises t is up low same) = ap (λ (w : History). w.elections) same ∙ sym (append-nil h.elections)
 guarded_elections ring id h g d a (Votes c floor is may same) = ap (λ (w : History). w.elections) same ∙ sym (append-nil h.elections)
 guarded_elections ring id h g d a (Leads e x is may same) = ap (λ (w : History). w.elections) same
 guarded_elections ring id h g d a (Adds e x is may same) = ap (λ (w : History). w.elections) same ∙ sym (append-nil h.elections)
 guarded_elections ring id h g d a (Cuts p is may same) = ap (λ (w : History). w.elections) same ∙ sym (append-nil h.elections)
 guarded_elections ring id h g d a (Extends es is may same) = ap (λ (w : History). w.elections) same ∙ sym (append-nil h.elections)
-guarded_elections ring id h g d a (Applies p is s same) = ap (λ (w : History). w.elections) same ∙ sym (append-nil h.elections)
+guarded_elections ring id h g d a (Applies p is s may same) = ap (λ (w : History). w.elections) same ∙ sym (append-nil h.elections)
 guarded_elections ring id h g d a (Engine s same) = ap (λ (w : History). w.elections) same ∙ sym (append-nil h.elections)
 
 pub path_elections : (ring : Layout) (id : ℕ) (h g : History) (d : Durable) (steps : List Action) (path : Path ring id h d steps g) → g.elections ≡ h.elections ++ elected ring id h g d steps path
@@ -207,15 +216,48 @@ path_elections ring id h g d (a ∷ rest) (Goes_on {g = m} move path) =
     ∙ (ap (λ (w : List Election). w ++ elected ring id m g (done d a) rest path) (guarded_elections ring id h m d a move)
     ∙ append_assoc h.elections (elects ring id h m d a move) (elected ring id m g (done d a) rest path))
 
+-- ---- how far a path reaches
+pub reach_on : (h g : History) (id t u p q : ℕ) → g.chosen ≡ h.chosen → ((e : Election) → Contains h.elections e → Contains g.elections e) → u ≡ t → q ≡ p → MayReach h id t p → MayReach g id u q
+reach_on h g id t u p q chosen more same_term same (inl low) = inl (omega (arith, ap length chosen))
+reach_on h g id t u p q chosen more same_term same (inr led) = inr (led.0, more led.0 led.1, led.2, led.3 ∙ sym same_term)
+
+pub reach_less : (h : History) (id t p q : ℕ) → q ≤ p → MayReach h id t p → MayReach h id t q
+reach_less h id t p q le (inl low) = inl (omega arith)
+reach_less h id t p q le (inr led) = inr led
+
+guarded_leads : (ring : Layout) (id : ℕ) (h g : History) (d : Durable) (a : Action) → Guarded ring id h d a g → (e : Election) → Contains h.elections e → Contains g.elections e
+guarded_leads ring id h g d a move e in_e = subst (λ (l : List Election). Contains l e) (sym (guarded_elections ring id h g d a move)) (Contains-append_left h.elections (elects ring id h g d a move) e in_e)
+
+guarded_reaches : (ring : Layout) (id : ℕ) (h g : History) (d : Durable) (a : Action) → Guarded ring id h d a g → MayReach h id d.term d.applied → MayReach g id (done d a).term (done d a).applied
+guarded_reaches ring id h g d a (Raises t is up low same) x = inl (omega (arith, low, ap (λ (w : Action). (done d w).applied) is, ap (λ (w : History). length w.chosen) same))
+guarded_reaches ring id h g d a (Applies p is s may same) x =
+    reach_on h g id d.term (done d a).term p (done d a).applied (guarded_still ring id h g d a (Applies p is s may same)).1 (guarded_leads ring id h g d a (Applies p is s may same)) (ap (λ (w : Action). (done d w).term) is) (ap (λ (w : Action). (done d w).applied) is) may
+guarded_reaches ring id h g d a (Engine s same) x =
+    reach_on h g id d.term (done d a).term d.applied (done d a).applied (guarded_still ring id h g d a (Engine s same)).1 (guarded_leads ring id h g d a (Engine s same)) s.term s.applied x
+guarded_reaches ring id h g d a (Votes c floor is may same) x =
+    reach_on h g id d.term (done d a).term d.applied (done d a).applied (guarded_still ring id h g d a (Votes c floor is may same)).1 (guarded_leads ring id h g d a (Votes c floor is may same)) (ap (λ (w : Action). (done d w).term) is) (ap (λ (w : Action). (done d w).applied) is) x
+guarded_reaches ring id h g d a (Leads e y is may same) x =
+    reach_on h g id d.term (done d a).term d.applied (done d a).applied (guarded_still ring id h g d a (Leads e y is may same)).1 (guarded_leads ring id h g d a (Leads e y is may same)) (ap (λ (w : Action). (done d w).term) is) (ap (λ (w : Action). (done d w).applied) is) x
+guarded_reaches ring id h g d a (Adds e y is may same) x =
+    reach_on h g id d.term (done d a).term d.applied (done d a).applied (guarded_still ring id h g d a (Adds e y is may same)).1 (guarded_leads ring id h g d a (Adds e y is may same)) (ap (λ (w : Action). (done d w).term) is) (ap (λ (w : Action). (done d w).applied) is) x
+guarded_reaches ring id h g d a (Cuts y is may same) x =
+    reach_on h g id d.term (done d a).term d.applied (done d a).applied (guarded_still ring id h g d a (Cuts y is may same)).1 (guarded_leads ring id h g d a (Cuts y is may same)) (ap (λ (w : Action). (done d w).term) is) (ap (λ (w : Action). (done d w).applied) is) x
+guarded_reaches ring id h g d a (Extends y is may same) x =
+    reach_on h g id d.term (done d a).term d.applied (done d a).applied (guarded_still ring id h g d a (Extends y is may same)).1 (guarded_leads ring id h g d a (Extends y is may same)) (ap (λ (w : Action). (done d w).term) is) (ap (λ (w : Action). (done d w).applied) is) x
+
+pub path_reaches : (ring : Layout) (id : ℕ) (h g : History) (d : Durable) (steps : List Action) → Path ring id h d steps g → MayReach h id d.term d.applied → MayReach g id (all_done d steps).term (all_done d steps).applied
+path_reaches ring id h g d [] Ends x = x
+path_reaches ring id h g d (a ∷ rest) (Goes_on {g = m} move path) x = path_reaches ring id m g (done d a) rest path (guarded_reaches ring id h m d a move x)
+
 -- a move of a path that goes on to an election with these grants: a term or a vote, or the election itself with none after it
 abbrev pub IsHeldBy : (ring : Layout) (id : ℕ) (h g : History) (d : Durable) (a : Action) → List Grant → Guarded ring id h d a g → Type 0 → List Election → Type 0
-IsHeldBy ring id h g d a grants (Raises t is up same) rest more = rest
+IsHeldBy ring id h g d a grants (Raises t is up low same) rest more = rest
 IsHeldBy ring id h g d a grants (Votes c floor is may same) rest more = rest
 IsHeldBy ring id h g d a grants (Leads e x is may same) rest more = (e.grants ≡ grants) × (more ≡ [])
 IsHeldBy ring id h g d a grants (Adds e x is may same) rest more = ⊥
 IsHeldBy ring id h g d a grants (Cuts p is may same) rest more = ⊥
 IsHeldBy ring id h g d a grants (Extends es is may same) rest more = ⊥
-IsHeldBy ring id h g d a grants (Applies p is s same) rest more = ⊥
+IsHeldBy ring id h g d a grants (Applies p is s may same) rest more = ⊥
 IsHeldBy ring id h g d a grants (Engine s same) rest more = ⊥
 
 -- the path holds an election with these grants
@@ -227,13 +269,13 @@ IsHeld ring id h g d (a ∷ rest) grants (Goes_on {g = m} move path) =
 -- a path of terms and votes alone
 abbrev pub IsBefore : (ring : Layout) (id : ℕ) (h g : History) (d : Durable) (steps : List Action) → Path ring id h d steps g → Type 0
 IsBefore ring id h g d [] Ends = Unit {0}
-IsBefore ring id h g d (a ∷ rest) (Goes_on {g = m} (Raises t is up same) path) = IsBefore ring id m g (done d a) rest path
+IsBefore ring id h g d (a ∷ rest) (Goes_on {g = m} (Raises t is up low same) path) = IsBefore ring id m g (done d a) rest path
 IsBefore ring id h g d (a ∷ rest) (Goes_on {g = m} (Votes c floor is may same) path) = IsBefore ring id m g (done d a) rest path
 IsBefore ring id h g d (a ∷ rest) (Goes_on {g = m} (Leads e x is may same) path) = ⊥
 IsBefore ring id h g d (a ∷ rest) (Goes_on {g = m} (Adds e x is may same) path) = ⊥
 IsBefore ring id h g d (a ∷ rest) (Goes_on {g = m} (Cuts p is may same) path) = ⊥
 IsBefore ring id h g d (a ∷ rest) (Goes_on {g = m} (Extends es is may same) path) = ⊥
-IsBefore ring id h g d (a ∷ rest) (Goes_on {g = m} (Applies p is s same) path) = ⊥
+IsBefore ring id h g d (a ∷ rest) (Goes_on {g = m} (Applies p is s may same) path) = ⊥
 IsBefore ring id h g d (a ∷ rest) (Goes_on {g = m} (Engine s same) path) = ⊥
 
 quiet_cut_go : (xs ys : List Election) → xs ++ ys ≡ [] → (xs ≡ []) × (ys ≡ [])
@@ -274,13 +316,13 @@ pub held_join : (ring : Layout) (id : ℕ) (h g f : History) (d : Durable) (a b 
     → IsHeld ring id h g d a grants p → elected ring id g f (all_done d a) b q ≡ [] → IsHeld ring id h f d (a ++ b) grants (path_join ring id h g f d a b p q)
 unfolding path_join
 held_join ring id h g f d [] b grants Ends q x y = absurd x
-held_join ring id h g f d (s ∷ a) b grants (Goes_on {g = m} (Raises t is up same) p) q x y = held_join ring id m g f (done d s) a b grants p q x y
+held_join ring id h g f d (s ∷ a) b grants (Goes_on {g = m} (Raises t is up low same) p) q x y = held_join ring id m g f (done d s) a b grants p q x y
 held_join ring id h g f d (s ∷ a) b grants (Goes_on {g = m} (Votes c floor is may same) p) q x y = held_join ring id m g f (done d s) a b grants p q x y
 held_join ring id h g f d (s ∷ a) b grants (Goes_on {g = m} (Leads e w is may same) p) q x y = (x.0, quiet_join ring id m g f (done d s) a b p q x.1 y)
 held_join ring id h g f d (s ∷ a) b grants (Goes_on {g = m} (Adds e w is may same) p) q x y = absurd x
 held_join ring id h g f d (s ∷ a) b grants (Goes_on {g = m} (Cuts w is may same) p) q x y = absurd x
 held_join ring id h g f d (s ∷ a) b grants (Goes_on {g = m} (Extends es is may same) p) q x y = absurd x
-held_join ring id h g f d (s ∷ a) b grants (Goes_on {g = m} (Applies w is sealed same) p) q x y = absurd x
+held_join ring id h g f d (s ∷ a) b grants (Goes_on {g = m} (Applies w is sealed may same) p) q x y = absurd x
 held_join ring id h g f d (s ∷ a) b grants (Goes_on {g = m} (Engine sealed same) p) q x y = absurd x
 
 -- terms and votes may come before an election
@@ -288,25 +330,25 @@ pub before_join : (ring : Layout) (id : ℕ) (h g f : History) (d : Durable) (a 
     → IsBefore ring id h g d a p → IsHeld ring id g f (all_done d a) b grants q → IsHeld ring id h f d (a ++ b) grants (path_join ring id h g f d a b p q)
 unfolding path_join
 before_join ring id h g f d [] b grants Ends q x y = y
-before_join ring id h g f d (s ∷ a) b grants (Goes_on {g = m} (Raises t is up same) p) q x y = before_join ring id m g f (done d s) a b grants p q x y
+before_join ring id h g f d (s ∷ a) b grants (Goes_on {g = m} (Raises t is up low same) p) q x y = before_join ring id m g f (done d s) a b grants p q x y
 before_join ring id h g f d (s ∷ a) b grants (Goes_on {g = m} (Votes c floor is may same) p) q x y = before_join ring id m g f (done d s) a b grants p q x y
 before_join ring id h g f d (s ∷ a) b grants (Goes_on {g = m} (Leads e w is may same) p) q x y = absurd x
 before_join ring id h g f d (s ∷ a) b grants (Goes_on {g = m} (Adds e w is may same) p) q x y = absurd x
 before_join ring id h g f d (s ∷ a) b grants (Goes_on {g = m} (Cuts w is may same) p) q x y = absurd x
 before_join ring id h g f d (s ∷ a) b grants (Goes_on {g = m} (Extends es is may same) p) q x y = absurd x
-before_join ring id h g f d (s ∷ a) b grants (Goes_on {g = m} (Applies w is sealed same) p) q x y = absurd x
+before_join ring id h g f d (s ∷ a) b grants (Goes_on {g = m} (Applies w is sealed may same) p) q x y = absurd x
 before_join ring id h g f d (s ∷ a) b grants (Goes_on {g = m} (Engine sealed same) p) q x y = absurd x
 
 -- terms and votes hold no election
 pub before_quiet : (ring : Layout) (id : ℕ) (h g : History) (d : Durable) (a : List Action) (p : Path ring id h d a g) → IsBefore ring id h g d a p → elected ring id h g d a p ≡ []
 before_quiet ring id h g d [] Ends x = refl
-before_quiet ring id h g d (s ∷ a) (Goes_on {g = m} (Raises t is up same) p) x = before_quiet ring id m g (done d s) a p x
+before_quiet ring id h g d (s ∷ a) (Goes_on {g = m} (Raises t is up low same) p) x = before_quiet ring id m g (done d s) a p x
 before_quiet ring id h g d (s ∷ a) (Goes_on {g = m} (Votes c floor is may same) p) x = before_quiet ring id m g (done d s) a p x
 before_quiet ring id h g d (s ∷ a) (Goes_on {g = m} (Leads e w is may same) p) x = absurd x
 before_quiet ring id h g d (s ∷ a) (Goes_on {g = m} (Adds e w is may same) p) x = absurd x
 before_quiet ring id h g d (s ∷ a) (Goes_on {g = m} (Cuts w is may same) p) x = absurd x
 before_quiet ring id h g d (s ∷ a) (Goes_on {g = m} (Extends es is may same) p) x = absurd x
-before_quiet ring id h g d (s ∷ a) (Goes_on {g = m} (Applies w is sealed same) p) x = absurd x
+before_quiet ring id h g d (s ∷ a) (Goes_on {g = m} (Applies w is sealed may same) p) x = absurd x
 before_quiet ring id h g d (s ∷ a) (Goes_on {g = m} (Engine sealed same) p) x = absurd x
 
 -- ---- the election that the definition finds
@@ -333,14 +375,14 @@ vote_passed id grants d a v floor rest is = subst (λ (w : Action). first_append
 pub held_whole : (ring : Layout) (id : ℕ) (h g : History) (d : Durable) (steps : List Action) (grants : List Grant) (path : Path ring id h d steps g) → IsHeld ring id h g d steps grants path
     → elected ring id h g d steps path ≡ first_append id grants d steps
 held_whole ring id h g d [] grants Ends x = absurd x
-held_whole ring id h g d (a ∷ rest) grants (Goes_on {g = m} (Raises t is up same) p) x = held_whole ring id m g (done d a) rest grants p x ∙ sym (term_passed id grants d a t rest is)
+held_whole ring id h g d (a ∷ rest) grants (Goes_on {g = m} (Raises t is up low same) p) x = held_whole ring id m g (done d a) rest grants p x ∙ sym (term_passed id grants d a t rest is)
 held_whole ring id h g d (a ∷ rest) grants (Goes_on {g = m} (Votes c floor is may same) p) x = held_whole ring id m g (done d a) rest grants p x ∙ sym (vote_passed id grants d a c.vote floor rest is)
 held_whole ring id h g d (a ∷ rest) grants (Goes_on {g = m} (Leads e w is may same) p) x =
     ap (λ (q : List Election). e ∷ q) x.1 ∙ (ap (λ (q : Election). q ∷ []) (election_is e id d grants may.of_term may.by may.base x.0) ∙ sym (append_found id grants d a w rest is))
 held_whole ring id h g d (a ∷ rest) grants (Goes_on {g = m} (Adds e w is may same) p) x = absurd x
 held_whole ring id h g d (a ∷ rest) grants (Goes_on {g = m} (Cuts w is may same) p) x = absurd x
 held_whole ring id h g d (a ∷ rest) grants (Goes_on {g = m} (Extends es is may same) p) x = absurd x
-held_whole ring id h g d (a ∷ rest) grants (Goes_on {g = m} (Applies w is sealed same) p) x = absurd x
+held_whole ring id h g d (a ∷ rest) grants (Goes_on {g = m} (Applies w is sealed may same) p) x = absurd x
 held_whole ring id h g d (a ∷ rest) grants (Goes_on {g = m} (Engine sealed same) p) x = absurd x
 
 pub held_cut : (ring : Layout) (id : ℕ) (h g : History) (d : Durable) (steps : List Action) (grants : List Grant) (n : ℕ) (path : Path ring id h d steps g) → IsHeld ring id h g d steps grants path
@@ -348,7 +390,7 @@ pub held_cut : (ring : Layout) (id : ℕ) (h g : History) (d : Durable) (steps :
 unfolding path_cut
 held_cut ring id h g d [] grants n Ends x = absurd x
 held_cut ring id h g d (a ∷ rest) grants zero (Goes_on move p) x = refl
-held_cut ring id h g d (a ∷ rest) grants (suc n) (Goes_on {g = m} (Raises t is up same) p) x = held_cut ring id m g (done d a) rest grants n p x ∙ sym (term_passed id grants d a t (take n rest) is)
+held_cut ring id h g d (a ∷ rest) grants (suc n) (Goes_on {g = m} (Raises t is up low same) p) x = held_cut ring id m g (done d a) rest grants n p x ∙ sym (term_passed id grants d a t (take n rest) is)
 held_cut ring id h g d (a ∷ rest) grants (suc n) (Goes_on {g = m} (Votes c floor is may same) p) x = held_cut ring id m g (done d a) rest grants n p x ∙ sym (vote_passed id grants d a c.vote floor (take n rest) is)
 held_cut ring id h g d (a ∷ rest) grants (suc n) (Goes_on {g = m} (Leads e w is may same) p) x =
     ap (λ (q : List Election). e ∷ q) (quiet_cut ring id m g (done d a) rest n p x.1)
@@ -356,5 +398,5 @@ held_cut ring id h g d (a ∷ rest) grants (suc n) (Goes_on {g = m} (Leads e w i
 held_cut ring id h g d (a ∷ rest) grants (suc n) (Goes_on {g = m} (Adds e w is may same) p) x = absurd x
 held_cut ring id h g d (a ∷ rest) grants (suc n) (Goes_on {g = m} (Cuts w is may same) p) x = absurd x
 held_cut ring id h g d (a ∷ rest) grants (suc n) (Goes_on {g = m} (Extends es is may same) p) x = absurd x
-held_cut ring id h g d (a ∷ rest) grants (suc n) (Goes_on {g = m} (Applies w is sealed same) p) x = absurd x
+held_cut ring id h g d (a ∷ rest) grants (suc n) (Goes_on {g = m} (Applies w is sealed may same) p) x = absurd x
 held_cut ring id h g d (a ∷ rest) grants (suc n) (Goes_on {g = m} (Engine sealed same) p) x = absurd x

@@ -1,5 +1,5 @@
 -- Steps without actions: a node's role and what is sealed stay through the messages that it sends.
-use Rattle.std.proofs.Common.{◌≡◌, ℕ, ◌<◌, [], ◌∷◌, ◌++◌, ◌∙◌, Bool, List, ap, arith, false, refl, subst, sym, true, zero}
+use Rattle.std.proofs.Common.{inl, ◌≡◌, ℕ, ◌<◌, [], ◌∷◌, ◌++◌, ◌∙◌, Bool, List, ap, arith, false, refl, subst, sym, true, zero}
 use Rattle.std.proofs.lemmas.List.Elements.{Contains-append_left}
 use Rattle.std.specs.List.{Contains}
 use Rattle.ring_types.specs.declared.entries.Entry.{Entry}
@@ -101,7 +101,7 @@ sends_all ring id d h (m ∷ ms) k n each =
 
 -- ---- rows
 pub idle_row : (ring : Layout) (h : History) (id : ℕ) (d : Durable) (s : Soft) → IsRunning ring h id d s → IsRow ring h id d s (idle s)
-idle_row ring h id d s r = record { acted = h; path = Ends; sent = h; sends = Sent_all; role = r.role; sealed = r.sealed; applied = r.applied; holding = stays_holding ring id h d s s refl }
+idle_row ring h id d s r = record { acted = h; path = Ends; sent = h; sends = Sent_all; role = r.role; sealed = r.sealed; applied = r.applied; reaches = inl r.chosen; holding = stays_holding ring id h d s s refl }
 
 -- a step without actions that keeps role and commit count
 pub plain_row : (ring : Layout) (h : History) (id : ℕ) (d : Durable) (s o : Soft) (ms : List Message) (says : List Say) → IsHistory ring h → IsNode ring h id d → IsRunning ring h id d s
@@ -116,6 +116,7 @@ plain_row ring h id d s o ms says k n r same count role each =
       role = role_sends ring id d h x.0 ms d o o.role x.1 (subst (λ (a : Role). HasRole h id d o a) (sym same) role);
       sealed = sealed_sends ring id d h x.0 ms d.term o.commit d.log x.1 (subst (λ (c : ℕ). IsSealed ring h d.term c d.log) (sym count) r.sealed);
       applied = omega (arith, r.applied, count);
+      reaches = inl (omega (arith, r.chosen, count));
       holding = stays_holding ring id h d s o same;
     }
 
@@ -123,11 +124,12 @@ plain_row ring h id d s o ms says k n r same count role each =
 pub raise_row : (ring : Layout) (h : History) (id t : ℕ) (d : Durable) (s : Soft) → d.term < t → IsRunning ring h id d s → IsRow ring h id d s (stepped (action.SetTerm t ∷ []) [] (unknowns s) (demoted s))
 raise_row ring h id t d s up r = record {
   acted = h;
-  path = Goes_on (Raises t refl up refl) Ends;
+  path = Goes_on (Raises t refl up (omega (arith, r.applied, r.chosen)) refl) Ends;
   sent = h;
   sends = Sent_all;
   role = tt;
   sealed = seal_raise ring h d.term t s.commit d.log (omega arith) r.sealed;
   applied = r.applied;
+  reaches = inl r.chosen;
   holding = Leads_not refl refl;
 }

@@ -1,5 +1,5 @@
 -- A proxy that relays: what it finds by the opids is the first of the leader's entries, since logs that share a term at a place agree up to it.
-use Rattle.std.proofs.Common.{◌≡◌, ℕ, ◌+◌, ◌<◌, ◌≤◌, ◌==◌, [], ◌∷◌, ◌∙◌, Bool, List, None, Option, Some, ap, arith, drop, false, length, refl, subst, suc, sym, take, true, zero}
+use Rattle.std.proofs.Common.{inl, ◌≡◌, ℕ, ◌+◌, ◌<◌, ◌≤◌, ◌==◌, [], ◌∷◌, ◌∙◌, Bool, List, None, Option, Some, ap, arith, drop, false, length, refl, subst, suc, sym, take, true, zero}
 use Rattle.std.proofs.lemmas.Bool.Decides.{nat_tests}
 use Rattle.ring_types.specs.declared.entries.Entry.{Entry}
 use Rattle.ring_types.specs.Rings.{Layout}
@@ -83,5 +83,6 @@ relay_row ring h id from sent d s k n r told =
       role = role_sent ring h m id d s s.role r.role;
       sealed = sealed_sent ring h m d.term s.commit d.log r.sealed;
       applied = r.applied;
+      reaches = inl r.chosen;
       holding = stays_holding ring id h d s s refl;
     }

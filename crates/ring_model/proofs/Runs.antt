@@ -1,13 +1,13 @@
 -- Every run of every ring is safe, and each leader's region is covered by the later elections: the invariant holds in the first world and each event keeps it.
-use Rattle.std.proofs.Common.{◌≡◌, ℕ, ◌≤◌, [], ◌∷◌, ◌++◌, ◌∙◌, List, ap, arith, false, length, refl, subst, sym, true}
+use Rattle.std.proofs.Common.{◌<◌, append_assoc, None, ◌≡◌, ℕ, ◌≤◌, [], ◌∷◌, ◌++◌, ◌∙◌, List, ap, arith, false, length, refl, subst, sym, true}
 use Rattle.std.proofs.lemmas.List.{append-nil}
 use Rattle.std.specs.List.{Contains}
 use Rattle.ring_types.specs.declared.entries.Entry.{Entry}
 use Rattle.ring_types.specs.Rings.{Layout, region_of}
-use Rattle.ring_model.specs.Safety.{Agree, AppliedPrefix, ChosenOnlyGrows, EveryRunCoversLeaders, EveryRunIsSafeSoFar, LeadersHave, Leads, LogsMatch, NeverTorn, OneLeaderATerm, needed_by}
+use Rattle.ring_model.specs.Safety.{Agree, AppliedPrefix, ChosenByLeader, ChosenOnlyGrows, EveryRunCoversLeaders, EveryRunIsSafeSoFar, LeadersHave, Leads, LogsMatch, NeverTorn, OneLeaderATerm, needed_by}
 use Rattle.ring_model.specs.declared.nodes.Role.TheVariants.{Candidate, Follower, Leader}
 use Rattle.ring_model.specs.declared.nodes.Durable.{Durable}
-use Rattle.ring_model.specs.Runs.{Election, Move, elections, elections_from, event_elections, world, world_from}
+use Rattle.ring_model.specs.Runs.{Election, Move, acting, elections, elections_from, event_elections, world, world_from}
 use Rattle.ring_model.specs.declared.nodes.Role.{Role}
 use Rattle.ring_model.specs.declared.nodes.Soft.{Soft}
 use Rattle.ring_model.specs.Worlds.{WorldState, first_world, world_step}
@@ -20,7 +20,7 @@ use Rattle.ring_model.proofs.Following.{agree_same, log_match}
 use Rattle.ring_model.proofs.Turns.{IsWorld, in_chosen}
 use Rattle.ring_model.proofs.Events.{Carried, carried_join, event_over, first_history, first_holds, line_whole}
 
-pub run_over : (ring : Layout) (w : WorldState) (h : History) (run : List Move) → IsWorld ring w h → Carried ring w (world_from ring w run) h (elections_from ring w run)
+pub run_over : (ring : Layout) (w : WorldState) (h : History) (run : List Move) → IsWorld ring w h → Carried ring w (world_from ring w run) h (elections_from ring w run) None
 run_over ring w h [] k = record {
   after = h;
   world = k;
@@ -28,10 +28,11 @@ run_over ring w h [] k = record {
   led = λ e in_e. in_e;
   sealed = λ u c l x. x;
   elections = sym (append-nil h.elections);
+  grew = λ more id task bad. absurd cc;
 }
 run_over ring w h (m ∷ run) k =
     let x = event_over ring w h m k in
-    carried_join ring w (world_step ring w m.event m.completion) (world_from ring (world_step ring w m.event m.completion) run) h (event_elections ring w m) (elections_from ring (world_step ring w m.event m.completion) run) x
+    carried_join ring w (world_step ring w m.event m.completion) (world_from ring (world_step ring w m.event m.completion) run) h (event_elections ring w m) (elections_from ring (world_step ring w m.event m.completion) run) (acting w m.event.what) None x
     (run_over ring (world_step ring w m.event m.completion) x.after run x.world)
 
 world_join : (ring : Layout) (w : WorldState) (before after : List Move) → world_from ring w (before ++ after) ≡ world_from ring (world_from ring w before) after
@@ -116,6 +117,29 @@ logs_match ring run i j position some in_i in_j same =
 chosen_grows : (ring : Layout) (run : List Move) → ChosenOnlyGrows ring run
 chosen_grows ring run before after is = (two_worlds ring before after run is).chosen
 
+elections_join : (ring : Layout) (w : WorldState) (before after : List Move) → elections_from ring w (before ++ after) ≡ elections_from ring w before ++ elections_from ring (world_from ring w before) after
+elections_join ring w [] after = refl
+elections_join ring w (m ∷ before) after =
+    ap (λ (e : List Election). event_elections ring w m ++ e) (elections_join ring (world_step ring w m.event m.completion) before after)
+    ∙ sym (append_assoc (event_elections ring w m) (elections_from ring (world_step ring w m.event m.completion) before) (elections_from ring (world_from ring (world_step ring w m.event m.completion) before) after))
+
+-- only a node that led the term makes the chosen sequence grow
+chosen_by_leader : (ring : Layout) (run : List Move) → ChosenByLeader ring run
+unfolding world elections
+chosen_by_leader ring run before m is more id task acts =
+    let w : WorldState = world_from ring first_world before in
+    let v : WorldState = world_step ring w m.event m.completion in
+    let x = run_over ring first_world first_history before (first_holds ring) in
+    let y = event_over ring w x.after m x.world in
+    let at : world_from ring first_world run ≡ v = ap (world_from ring first_world) is ∙ world_join ring first_world before (m ∷ []) in
+    let led = y.grew (subst (λ (z : WorldState). length w.chosen < length z.chosen) at more) id task acts in
+    let held : y.after.elections ≡ elections_from ring first_world run =
+    y.elections
+    ∙ (ap (λ (e : List Election). e ++ event_elections ring w m) x.elections
+    ∙ (ap (λ (e : List Election). elections_from ring first_world before ++ e) (sym (append-nil (event_elections ring w m)))
+    ∙ (sym (elections_join ring first_world before (m ∷ [])) ∙ ap (elections_from ring first_world) (sym is)))) in
+    (led.0, subst (λ (l : List Election). Contains l led.0) held led.1, led.2, led.3 ∙ ap (λ (z : WorldState). (z.nodes id).durable.term) (sym at))
+
 never_torn_event : (ring : Layout) (run : List Move) → NeverTorn ring run
 never_torn_event ring run before after m is = let x = reached ring before in line_whole ring (world ring before) x.history m.event.what x.world
 
@@ -134,8 +158,7 @@ every_run_is_safe_so_far ring run lawful = record {
   applied_prefix = applied_prefix ring run;
   one_leader_a_term = one_leader_a_term ring run;
   logs_match = logs_match ring run;
-  chosen_grows = chosen_grows ring run;
-  never_torn = never_torn_event ring run;
+  chosen_grows = record { grows = chosen_grows ring run; by_leader = chosen_by_leader ring run; never_torn = never_torn_event ring run };
   leaders_have = leaders_have ring run;
 }
 

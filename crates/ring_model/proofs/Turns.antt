@@ -4,6 +4,7 @@ use Rattle.std.proofs.lemmas.List.{append-nil, length-take-le}
 use Rattle.std.proofs.lemmas.Bool.{cases_eq}
 use Rattle.std.proofs.lemmas.Bool.Decides.{nat_tests}
 use Rattle.std.specs.Prelude.{nat_lt}
+use Rattle.std.specs.List.{Contains}
 use Rattle.ring_types.specs.declared.entries.Entry.{Entry}
 use Rattle.ring_types.specs.Rings.{Layout}
 use Rattle.ring_model.specs.declared.effects.Action.{Action}
@@ -23,7 +24,7 @@ use Rattle.ring_model.proofs.Invariant.{As_leader, By_reply, HasAcked, HasRole, 
 use Rattle.ring_model.proofs.Growth.{Grows, agree_sym, agree_trans, candidate_stays, cast_stays, chosen_stays, grow_log, grow_sealed, leader_stays, others_stay, sent_stays, won_stays}
 use Rattle.ring_model.proofs.Following.{agree_same, agree_take}
 use Rattle.ring_model.proofs.Sending.{MayAnswer, sealed_agree, sent_grows, sent_history, sent_node, with_message}
-use Rattle.ring_model.proofs.Paths.{IsHeld, Path, SameLog, elected, grows_refl, grows_trans, held_cut, held_whole, path_chosen, path_cut, path_elections, path_keeps, path_messages, quiet_cut, same_node}
+use Rattle.ring_model.proofs.Paths.{IsHeld, IsLed, MayReach, Path, SameLog, path_reaches, reach_on, elected, grows_refl, grows_trans, held_cut, held_whole, path_chosen, path_cut, path_elections, path_keeps, path_messages, quiet_cut, same_node}
 
 -- the history is the world's
 pub record IsWorld (ring : Layout) (w : WorldState) (h : History) : Type 0 where
@@ -54,6 +55,7 @@ pub record IsRow (ring : Layout) (h : History) (id : ℕ) (d : Durable) (s : Sof
   pub role : HasRole sent id (all_done d st.plan.actions) st.soft st.soft.role
   pub sealed : IsSealed ring sent (all_done d st.plan.actions).term st.soft.commit (all_done d st.plan.actions).log
   pub applied : (all_done d st.plan.actions).applied ≤ st.soft.commit
+  pub reaches : MayReach acted id (all_done d st.plan.actions).term st.soft.commit
   pub holding : Holding ring id h acted d s st.soft st.plan.actions path
 
 sends_hold : (ring : Layout) (id : ℕ) (d : Durable) (h g : History) (ms : List Message) → IsHistory ring h → IsNode ring h id d → Sends ring id d h ms g
@@ -167,6 +169,7 @@ pub record IsTurn (ring : Layout) (w : WorldState) (h : History) (id : ℕ) (n :
   pub messages : after.messages ≡ w.messages ++ ms
   pub chosen : after.chosen ≡ h.chosen
   pub elections : after.elections ≡ h.elections ++ held
+  pub reaches : MayReach after id n.durable.term (reach n)
   pub reached : IsSealed ring after n.durable.term (reach n) n.durable.log
   pub inside : reach n ≤ length n.durable.log
   pub applied : n.durable.applied ≤ reach n
@@ -179,6 +182,16 @@ pub record TurnedTo (ring : Layout) (w v : WorldState) (h : History) (id : ℕ) 
   pub grows : Grows id h after
   pub chosen : Agree (length w.chosen) w.chosen v.chosen
   pub elections : after.elections ≡ h.elections ++ held
+  pub grew : length w.chosen < length v.chosen → IsLed after id (v.nodes id).durable.term
+
+-- where the chosen sequence grew the node led its term
+grown_led : (h : History) (id : ℕ) (n : Node) (c : List Entry) → h.chosen ≡ c → MayReach h id n.durable.term (reach n) → length c < length (grown c n) → IsLed h id n.durable.term
+grown_led h id n c is (inr led) more = led
+grown_led h id n c is (inl low) more = go (nat_lt (length c) (reach n)) refl more
+  where
+    go : (b : Bool) → nat_lt (length c) (reach n) ≡ b → length c < length (grown c n) → IsLed h id n.durable.term
+    go true x y = absurd (let lt : length c < reach n = grind (arith, nat_tests, x) in omega (arith, low, ap length is))
+    go false x y = absurd (let z = rw x at y in omega arith)
 
 grow_agrees : (ring : Layout) (h : History) (u : ℕ) (n : Node) → IsHistory ring h → reach n ≤ length n.durable.log → IsSealed ring h u (reach n) n.durable.log → Agree (length h.chosen) h.chosen (grown h.chosen n)
 grow_agrees ring h u n k le x = go (nat_lt (length h.chosen) (reach n)) refl
@@ -228,6 +241,7 @@ turn_keeps ring w h id n ms says cuts held k t =
       };
       grows = all;
       elections = t.elections;
+      grew = λ more. subst (λ (m : Node). IsLed (with_chosen x l) id m.durable.term) (sym (node_here w.nodes id n)) (grown_led x id n w.chosen is t.reaches more);
       chosen = subst (λ (c : List Entry). Agree (length c) c (grown c n)) is (grow_agrees ring x n.durable.term n t.history t.inside t.reached);
     }
   where
@@ -281,6 +295,7 @@ whole_keeps ring w h id s st k row =
       messages = q.3 ∙ ap (λ (m : List Message). m ++ st.plan.messages) (path_messages ring id h row.acted d st.plan.actions row.path ∙ k.messages);
       chosen = q.4 ∙ path_chosen ring id h row.acted d st.plan.actions row.path;
       elections = q.5 ∙ (path_elections ring id h row.acted d st.plan.actions row.path ∙ ap (λ (e : List Election). h.elections ++ e) (held_in_whole ring id h row.acted d s st row.path row.holding));
+      reaches = reach_on row.acted row.sent id (all_done d st.plan.actions).term (all_done d st.plan.actions).term st.soft.commit st.soft.commit q.4 (λ e in_e. subst (λ (l : List Election). Contains l e) (sym q.5) in_e) refl refl row.reaches;
       reached = row.sealed;
       inside = seal_within ring row.sent (all_done d st.plan.actions).term st.soft.commit (all_done d st.plan.actions).log row.sealed;
       applied = row.applied;
@@ -302,6 +317,7 @@ cut_keeps ring w h id count s st k row =
       messages = path_messages ring id h c.0 d (take count st.plan.actions) c.1 ∙ (k.messages ∙ sym (append-nil w.messages));
       chosen = path_chosen ring id h c.0 d (take count st.plan.actions) c.1;
       elections = path_elections ring id h c.0 d (take count st.plan.actions) c.1 ∙ ap (λ (e : List Election). h.elections ++ e) (held_in_cut ring id h row.acted d s st row.path count row.holding);
+      reaches = path_reaches ring id h c.0 d (take count st.plan.actions) c.1 (inl (k.applied id));
       reached = p.node.applied;
       inside = seal_within ring c.0 (all_done d (take count st.plan.actions)).term (all_done d (take count st.plan.actions)).applied (all_done d (take count st.plan.actions)).log p.node.applied;
       applied = omega arith;
@@ -321,6 +337,7 @@ down_keeps ring w h id e cuts same k =
       messages = k.messages ∙ sym (append-nil w.messages);
       chosen = refl;
       elections = sym (append-nil h.elections);
+      reaches = inl (omega (arith, same.applied, k.applied id));
       reached = n.applied;
       inside = seal_within ring h e.term e.applied e.log n.applied;
       applied = omega arith;
@@ -341,6 +358,7 @@ restart_keeps ring w h id k =
       messages = k.messages ∙ sym (append-nil w.messages);
       chosen = refl;
       elections = sym (append-nil h.elections);
+      reaches = inl (k.applied id);
       reached = (k.nodes id).applied;
       inside = seal_within ring h d.term d.applied d.log (k.nodes id).applied;
       applied = omega arith;

@@ -1,5 +1,5 @@
 -- A leader that adds an entry of its own, for a write or a rotate: its book goes on with it, and its commit count rises as the holders allow.
-use Rattle.std.proofs.Common.{◌≡◌, ℕ, ◌≤◌, [], ◌∷◌, ◌++◌, ◌∙◌, List, None, Option, Some, ap, arith, length, length-append, refl, subst, suc, sym}
+use Rattle.std.proofs.Common.{inl, ◌≡◌, ℕ, ◌≤◌, [], ◌∷◌, ◌++◌, ◌∙◌, List, None, Option, Some, ap, arith, length, length-append, refl, subst, suc, sym}
 use Rattle.ring_types.specs.declared.values.Change.{Change}
 use Rattle.ring_types.specs.declared.entries.Entry.{Entry}
 use Rattle.ring_types.specs.Rings.{Layout, region_of}
@@ -58,7 +58,7 @@ add_row ring h id d s t first x says k n r role same_role same_count same_peers 
     (Led_on (ap is_leader role) (quiet_join ring id h h m d first (action.Append (x ∷ []) ∷ []) q.path (Goes_on (Adds l.election x refl may refl) Ends) q.quiet refl))
 
 pub refused_row : (ring : Layout) (h : History) (id client : ℕ) (c : Cause) (d : Durable) (s : Soft) → IsRunning ring h id d s → IsRow ring h id d s (refused s client c)
-refused_row ring h id client c d s r = record { acted = h; path = Ends; sent = h; sends = Sent_all; role = r.role; sealed = r.sealed; applied = r.applied; holding = stays_holding ring id h d s s refl }
+refused_row ring h id client c d s r = record { acted = h; path = Ends; sent = h; sends = Sent_all; role = r.role; sealed = r.sealed; applied = r.applied; reaches = inl r.chosen; holding = stays_holding ring id h d s s refl }
 
 -- only a leader is not refused
 write_leads : (ring : Layout) (id : ℕ) (d : Durable) (s : Soft) (changes : List Change) → write_refusal ring id d s changes ≡ None → s.role ≡ Leader

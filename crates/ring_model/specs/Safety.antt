@@ -108,8 +108,7 @@ pub record SafeSoFar (ring : Layout) (run : List Move) : Type 0 where
   pub applied_prefix : AppliedPrefix (world ring run)
   pub one_leader_a_term : OneLeaderATerm (world ring run) (elections ring run)
   pub logs_match : LogsMatch (world ring run)
-  pub chosen_grows : ChosenOnlyGrows ring run
-  pub never_torn : NeverTorn ring run
+  pub chosen_grows : ChosenGrows ring run
   pub leaders_have : LeadersHave ring run
 
 -- for every ring and every run of it
