@@ -176,6 +176,7 @@ module _ (ring : Layout) (h : History) (id : ℕ) (d : Durable) (c : Cast) (floo
   cast_keeps_history = record {
     elections = λ e in_e. let x = k.elections e in_e in won_stays ring id h (with_cast h c) cast_grows e in_e x (λ i low high. absurd (omega arith)) (grow_log ring id h (with_cast h c) cast_grows e.term e.term (h.book e.term) (omega arith) x.book);
     one_leader = k.one_leader;
+    terms_once = k.terms_once;
     casts = λ e in_e. elim (Contains-push_cases h.casts c e in_e) [
       | inl old ↦ cast_stays ring id h (with_cast h c) cast_grows k e old (k.casts e old)
       | inr new ↦ subst (λ (w : Cast). IsCast ring (with_cast h c) w) new (record {

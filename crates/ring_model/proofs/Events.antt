@@ -259,6 +259,7 @@ first_holds ring = record {
   history = record {
     elections = λ e in_e. absurd (none_contained e in_e);
     one_leader = λ e f in_e in_f t. absurd (none_contained e in_e);
+    terms_once = λ j k e f at_j at_k t. absurd cc;
     casts = λ c in_c. absurd (none_contained c in_c);
     one_vote = λ c d in_c in_d v t. absurd (none_contained c in_c);
     sent = λ m in_m. absurd (none_contained m in_m);

@@ -1,4 +1,5 @@
 -- What holds in each world of a run: of the history that the proof remembers, of each message, of each node's durable part and of each running node.
+use Rattle.std.specs.Prelude.{slice_get}
 use Rattle.std.proofs.Common.{◌≡◌, ℕ, ◌+◌, ◌<◌, ◌≤◌, ◌⊎◌, List, Some, drop, length, suc, take, true}
 use Rattle.std.specs.List.{Contains}
 use Rattle.ring_types.specs.declared.entries.Entry.{Entry}
@@ -136,6 +137,7 @@ IsSent ring h from to _ = Unit {0}
 pub record IsHistory (ring : Layout) (h : History) : Type 0 where
   pub elections : (e : Election) → Contains h.elections e → IsWon ring h e
   pub one_leader : (e f : Election) → Contains h.elections e → Contains h.elections f → e.term ≡ f.term → e ≡ f
+  pub terms_once : (j k : ℕ) (e f : Election) → slice_get h.elections j ≡ Some e → slice_get h.elections k ≡ Some f → e.term ≡ f.term → j ≡ k
   pub casts : (c : Cast) → Contains h.casts c → IsCast ring h c
   pub one_vote : (c d : Cast) → Contains h.casts c → Contains h.casts d → c.voter ≡ d.voter → c.vote.term ≡ d.vote.term → c ≡ d
   pub sent : (m : Message) → Contains h.messages m → IsSent ring h m.from m.to m.body

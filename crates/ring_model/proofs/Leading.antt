@@ -1,4 +1,5 @@
 -- A node that begins to lead, and a leader that adds an entry, keep the invariant: the book of its term becomes its log.
+use Rattle.ring_model.proofs.Lists.{place_cases, placed_contains}
 use Rattle.std.proofs.Common.{◌≡◌, ℕ, ◌<◌, ◌≤◌, ◌==◌, ◌⊎◌, [], ◌∷◌, ◌++◌, ◌∙◌, if◌then◌else◌, List, Some, ap, arith, false, inl, inr, length, length-append, refl, subst, suc, sym, true, zero}
 use Rattle.std.proofs.lemmas.List.Elements.{Contains-append_left, Contains-push, Contains-push_cases}
 use Rattle.std.proofs.lemmas.Bool.{cases_eq, cases_lt}
@@ -229,6 +230,18 @@ module _ (ring : Layout) (h : History) (id : ℕ) (d : Durable) (e : Election) (
         | inr new ↦ absurd (let q = ap (λ (w : Election). w.term) new in omega (arith, may.of_term))
       ])
 
+  led_once : (i j : ℕ) (f g : Election) → slice_get (h.elections ++ e ∷ []) i ≡ Some f → slice_get (h.elections ++ e ∷ []) j ≡ Some g → f.term ≡ g.term → i ≡ j
+  led_once i j f g at_i at_j t = elim (place_cases h.elections e i f at_i) [
+    | inl old ↦ elim (place_cases h.elections e j g at_j) [
+      | inl old_g ↦ k.terms_once i j f g old old_g t
+      | inr new_g ↦ absurd (no_leader f (placed_contains h.elections i f old) (t ∙ ap (λ (w : Election). w.term) (sym new_g.1)))
+    ]
+    | inr new ↦ elim (place_cases h.elections e j g at_j) [
+      | inl old_g ↦ absurd (no_leader g (placed_contains h.elections j g old_g) (sym t ∙ ap (λ (w : Election). w.term) (sym new.1)))
+      | inr new_g ↦ new.0 ∙ sym new_g.0
+    ]
+  ]
+
   pub led_history : IsHistory ring led
   led_history = record {
     elections = λ f in_f. elim (Contains-push_cases h.elections e f in_f) [
@@ -242,6 +255,7 @@ module _ (ring : Layout) (h : History) (id : ℕ) (d : Durable) (e : Election) (
       | inl old ↦ elim (Contains-push_cases h.elections e g in_g) [ inl old_g ↦ k.one_leader f g old old_g t | inr new_g ↦ absurd (no_leader f old (t ∙ ap (λ (w : Election). w.term) (sym new_g))) ]
       | inr new ↦ elim (Contains-push_cases h.elections e g in_g) [ inl old_g ↦ absurd (no_leader g old_g (sym t ∙ ap (λ (w : Election). w.term) (sym new))) | inr new_g ↦ sym new ∙ new_g ]
     ];
+    terms_once = led_once;
     casts = λ c in_c. cast_stays ring id h led led_grows k c in_c (k.casts c in_c);
     one_vote = k.one_vote;
     sent = λ m in_m. sent_stays ring id h led led_grows m.from m.to m.body (k.sent m in_m);
@@ -336,6 +350,7 @@ module _ (ring : Layout) (h : History) (id : ℕ) (d : Durable) (e : Election) (
           (subst (λ (b : List Entry). IsBookedLog ring added f.term b) (sym o) (grow_log ring id h added added_grows f.term f.term (h.book f.term) (omega arith) y.book))
     ];
     one_leader = k.one_leader;
+    terms_once = k.terms_once;
     casts = λ c in_c. cast_stays ring id h added added_grows k c in_c (k.casts c in_c);
     one_vote = k.one_vote;
     sent = λ m in_m. sent_stays ring id h added added_grows m.from m.to m.body (k.sent m in_m);

@@ -1,7 +1,7 @@
 -- Membership of lists: what a filter keeps and what a test of a list finds, by recursion on the list.
-use Rattle.std.proofs.Common.{◌≡◌, ℕ, zero, suc, ◌<◌, ◌==◌, ◌⊎◌, inl, inr, Bool, true, false, ◌&&◌, List, [], ◌∷◌, map, refl, ap, sym, ◌∙◌, arith}
+use Rattle.std.proofs.Common.{◌≡◌, ℕ, zero, suc, ◌<◌, ◌==◌, ◌⊎◌, inl, inr, Bool, true, false, ◌&&◌, List, [], ◌∷◌, ◌++◌, length, map, refl, ap, sym, ◌∙◌, arith, Some, None}
 use Rattle.std.proofs.lemmas.Bool.Decides.{nat_tests}
-use Rattle.std.specs.Prelude.{nat_lt}
+use Rattle.std.specs.Prelude.{nat_lt, slice_get}
 use Rattle.std.specs.List.{Contains, filter, list_any, list_all}
 use Rattle.ring_model.specs.Quorums.{is_listed}
 
@@ -96,3 +96,24 @@ contains_listed xs x c = any_true (λ (w : ℕ). w == x) xs x c (grind (arith, n
 pub both_true : (a b : Bool) → (a && b) ≡ true → (a ≡ true) × (b ≡ true)
 both_true true b t = (refl, t)
 both_true false b t = absurd (let z : false ≡ true = t in cc)
+
+-- ---- places
+placed_first : {X : Type 0} (y : X) (x : X) → Some y ≡ Some x → y ≡ x
+placed_first y x is = cc
+
+pub placed_contains : {X : Type 0} (xs : List X) (k : ℕ) (x : X) → slice_get xs k ≡ Some x → Contains xs x
+placed_contains [] k x is = absurd cc
+placed_contains (y ∷ ys) zero x is = (zero, omega arith, placed_first y x is)
+placed_contains (y ∷ ys) (suc k) x is = in_cons y ys x (placed_contains ys k x is)
+
+next_place : {X : Type 0} (y : X) (ys : List X) (z x : X) (k : ℕ) → (slice_get ys k ≡ Some x) ⊎ ((k ≡ length ys) × (z ≡ x))
+    → (slice_get (y ∷ ys) (suc k) ≡ Some x) ⊎ ((suc k ≡ length (y ∷ ys)) × (z ≡ x))
+next_place y ys z x k (inl old) = inl old
+next_place y ys z x k (inr new) = inr (ap suc new.0, new.1)
+
+-- a place of a list with one more item is one of the list's, or the last
+pub place_cases : {X : Type 0} (xs : List X) (z : X) (k : ℕ) (x : X) → slice_get (xs ++ z ∷ []) k ≡ Some x → (slice_get xs k ≡ Some x) ⊎ ((k ≡ length xs) × (z ≡ x))
+place_cases [] z zero x is = inr (refl, placed_first z x is)
+place_cases [] z (suc k) x is = absurd cc
+place_cases (y ∷ ys) z zero x is = inl is
+place_cases (y ∷ ys) z (suc k) x is = next_place y ys z x k (place_cases ys z k x is)

@@ -1,5 +1,6 @@
 -- Every run of every ring is safe, and each leader's region is covered by the later elections: the invariant holds in the first world and each event keeps it.
-use Rattle.std.proofs.Common.{◌<◌, append_assoc, None, ◌≡◌, ℕ, ◌≤◌, [], ◌∷◌, ◌++◌, ◌∙◌, List, ap, arith, false, length, refl, subst, sym, true}
+use Rattle.std.specs.Prelude.{slice_get}
+use Rattle.std.proofs.Common.{◌<◌, append_assoc, None, ◌≡◌, ℕ, ◌≤◌, [], ◌∷◌, ◌++◌, ◌∙◌, List, ap, arith, false, length, refl, subst, sym, true, Some}
 use Rattle.std.proofs.lemmas.List.{append-nil}
 use Rattle.std.specs.List.{Contains}
 use Rattle.ring_types.specs.declared.entries.Entry.{Entry}
@@ -102,8 +103,8 @@ one_leader_a_term : (ring : Layout) (run : List Move) → OneLeaderATerm (world 
 one_leader_a_term ring run =
     let x = reached ring run in
     record {
-      once = λ e f in_e in_f same. x.world.history.one_leader e f
-          (subst (λ (l : List Election). Contains l e) (sym x.elections) in_e) (subst (λ (l : List Election). Contains l f) (sym x.elections) in_f) same;
+      once = λ j k e f at_j at_k same. x.world.history.terms_once j k e f
+          (subst (λ (l : List Election). slice_get l j ≡ Some e) (sym x.elections) at_j) (subst (λ (l : List Election). slice_get l k ≡ Some f) (sym x.elections) at_k) same;
       elected = λ id s leads. let l = leader_in ring (world ring run) x.history id s x.world leads in
           (l.election, subst (λ (es : List Election). Contains es l.election) x.elections l.led, l.by, l.of_term);
     }

@@ -65,6 +65,7 @@ module _ (ring : Layout) (h : History) (id : ℕ) (d : Durable) (m : Message) (k
   sent_history = record {
     elections = λ f in_f. let y = k.elections f in_f in won_stays ring id h (with_message h m) sent_grows f in_f y (λ i low high. absurd (omega arith)) (grow_log ring id h (with_message h m) sent_grows f.term f.term (h.book f.term) (omega arith) y.book);
     one_leader = k.one_leader;
+    terms_once = k.terms_once;
     casts = λ c in_c. cast_stays ring id h (with_message h m) sent_grows k c in_c (k.casts c in_c);
     one_vote = k.one_vote;
     sent = λ x in_x. elim (Contains-push_cases h.messages m x in_x) [

@@ -99,6 +99,7 @@ chosen_history ring id h l le k s =
     record {
       elections = λ f in_f. let y = k.elections f in_f in won_stays ring id h (with_chosen h l) g f in_f y (λ i low high. absurd (omega arith)) (grow_log ring id h (with_chosen h l) g f.term f.term (h.book f.term) (omega arith) y.book);
       one_leader = k.one_leader;
+      terms_once = k.terms_once;
       casts = λ c in_c. cast_stays ring id h (with_chosen h l) g k c in_c (k.casts c in_c);
       one_vote = k.one_vote;
       sent = λ m in_m. sent_stays ring id h (with_chosen h l) g m.from m.to m.body (k.sent m in_m);

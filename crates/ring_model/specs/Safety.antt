@@ -1,5 +1,5 @@
 -- What it is for a run to be safe: seven facts of its worlds. They are stated here; docs and contracts say which are proved.
-use Rattle.std.specs.Prelude.{◌≡◌, ℕ, zero, suc, ◌+◌, ◌<◌, ◌≤◌, Bool, true, false, List, [], ◌∷◌, ◌++◌, length, take, Option, Some, None}
+use Rattle.std.specs.Prelude.{◌≡◌, ℕ, zero, suc, ◌+◌, ◌<◌, ◌≤◌, Bool, true, false, List, [], ◌∷◌, ◌++◌, length, take, Option, Some, None, slice_get}
 use Rattle.std.specs.List.{Contains}
 use Rattle.ring_types.specs.declared.entries.Entry.{Entry}
 use Rattle.ring_types.specs.declared.entries.Opid.{Opid}
@@ -43,7 +43,7 @@ ToldStands w = (gtid : Gtid) (opid : Opid) (term : ℕ) → IsTold w gtid opid t
 
 -- no term is led twice, and each running leader was elected in its term
 pub record OneLeaderATerm (w : WorldState) (held : List Election) : Type 0 where
-  pub once : (e f : Election) → Contains held e → Contains held f → e.term ≡ f.term → e ≡ f
+  pub once : (j k : ℕ) (e f : Election) → slice_get held j ≡ Some e → slice_get held k ≡ Some f → e.term ≡ f.term → j ≡ k
   pub elected : (id : ℕ) (s : Soft) → Leads w id s → (e : Election) × Contains held e × (e.node ≡ id) × (e.term ≡ (w.nodes id).durable.term)
 
 -- on each running node with an engine the prepared pairs are those of the transactions above its applied count up to some position, in order; a logtailer, running or down, has none and has applied nothing
@@ -73,8 +73,8 @@ NeverTorn ring run = (before after : List Move) (m : Move) → run ≡ before ++
 -- where an event changed the chosen sequence, the acting node was elected in its term
 abbrev pub ChosenByLeader : Layout → List Move → Type 0
 ChosenByLeader ring run = (before : List Move) (m : Move) → run ≡ before ++ m ∷ [] → length (world ring before).chosen < length (world ring run).chosen
-    → (e : Election) × (task : Task) × Contains (elections ring run) e × (acting (world ring before) m.event.what ≡ Some (e.node, task))
-        × (e.term ≡ ((world ring run).nodes e.node).durable.term)
+    → (id : ℕ) (task : Task) → acting (world ring before) m.event.what ≡ Some (id, task)
+    → (e : Election) × Contains (elections ring run) e × (e.node ≡ id) × (e.term ≡ ((world ring run).nodes id).durable.term)
 
 pub record ChosenGrows (ring : Layout) (run : List Move) : Type 0 where
   pub grows : ChosenOnlyGrows ring run
