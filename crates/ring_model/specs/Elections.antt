@@ -38,7 +38,7 @@ leading ring me noop s grants = record s { role = Leader; grants = grants; ready
 abbrev pub lead : Layout → ℕ → Durable → Soft → List Action → List Say → List Grant → Step
 lead ring me d s first says grants =
     advance ring me d (leading ring me (suc (length (all_done d first).log)) s grants)
-        (first ++ (action.Append (own_entry ring me (all_done d first) payload.NoOp ∷ []) ∷ [])) says
+    (first ++ (action.Append (own_entry ring me (all_done d first) payload.NoOp ∷ []) ∷ [])) says
 
 -- the grants cover what they and the log make needed
 abbrev pub has_won : Layout → ℕ → Durable → List Grant → Bool
@@ -82,7 +82,7 @@ own_grant me after = record { voter = me; votes = votes_between (last after.log)
 abbrev pub stand : Layout → ℕ → Durable → Soft → Step
 stand ring me d s =
     lead_or_ask ring me d (demoted s) (stand_actions ring me d s) (unknowns s)
-        (own_grant me (all_done d (stand_actions ring me d s)) ∷ []) (requests me (suc d.term) (last d.log) ring.members)
+    (own_grant me (all_done d (stand_actions ring me d s)) ∷ []) (requests me (suc d.term) (last d.log) ring.members)
 
 unfoldable pub elect : Layout → ℕ → Durable → Soft → Step
 elect ring me d s = if may_elect ring me d s then stand ring me d s else idle s
@@ -111,7 +111,7 @@ answer_by ring me d s first says from asked (Some kept) =
 answer_by ring me d s first says from asked None =
     if at_least asked.last (last d.log)
     then (if has_room (floor_of d s) d.votes then granted_now me d s (cast_actions ring d s first from asked.term) says from asked
-      else refused_now me s first says from asked.term)
+    else refused_now me s first says from asked.term)
     else refused_now me s first says from asked.term
 
 -- once the node has the term of the request

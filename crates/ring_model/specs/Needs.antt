@@ -48,8 +48,8 @@ abbrev pub closure : Layout → ℕ → List ℕ → List Report → List ℕ
 closure ring zero regions pool = regions
 closure ring (suc rounds) regions pool =
     elim (filter (is_heard ring regions) pool) [
-      [] ↦ regions
-    | p ∷ heard ↦ closure ring rounds (regions_of (p ∷ heard) ++ regions) (filter (is_unheard ring regions) pool)
+      | [] ↦ regions
+      | p ∷ heard ↦ closure ring rounds (regions_of (p ∷ heard) ++ regions) (filter (is_unheard ring regions) pool)
     ]
 
 -- the regions needed by a candidate of a term and region whose last entry has this term and region

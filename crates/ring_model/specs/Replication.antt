@@ -97,7 +97,7 @@ first_tear log commit position [] = None
 first_tear log commit position (sent ∷ terms) =
     if nat_le position commit
     then (if term_at log position == sent then first_tear log commit (suc position) terms
-      else Some (record { position = position; kept_term = term_at log position; sent_term = sent }))
+    else Some (record { position = position; kept_term = term_at log position; sent_term = sent }))
     else None
 
 abbrev pub terms_of : List Entry → List ℕ
@@ -133,7 +133,7 @@ accept_with ring me d s first says sent taken =
     let last_matched = sent.prev.position + length sent.entries in
     let commit = greater_of s.commit (smaller_of sent.commit last_matched) in
     stepped (first ++ (taken ++ follow_actions ring me (all_done (all_done d first) taken) commit))
-        (reply me sent.leader sent.term true last_matched ∷ []) says (record s { commit = commit })
+    (reply me sent.leader sent.term true last_matched ∷ []) says (record s { commit = commit })
 
 abbrev pub accept : Layout → ℕ → Durable → Soft → List Action → List Say → Append → Step
 accept ring me d s first says sent =
@@ -152,9 +152,9 @@ abbrev pub follow_append : Layout → ℕ → Durable → Soft → Append → St
 follow_append ring me d s sent =
     if nat_lt d.term sent.term then match_append ring me d (demoted s) (action.SetTerm sent.term ∷ []) (unknowns s) sent
     else elim s.role [
-      Follower ↦ match_append ring me d s [] [] sent
-    | Candidate ↦ match_append ring me d (demoted s) [] (unknowns s) sent
-    | Leader ↦ idle s
+      | Follower ↦ match_append ring me d s [] [] sent
+      | Candidate ↦ match_append ring me d (demoted s) [] (unknowns s) sent
+      | Leader ↦ idle s
     ]
 
 -- the files would be too many

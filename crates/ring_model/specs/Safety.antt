@@ -39,7 +39,7 @@ pub record AppliedPrefix (w : WorldState) : Type 0 where
 abbrev pub ToldStands : WorldState → Type 0
 ToldStands w = (gtid : Gtid) (opid : Opid) (term : ℕ) → IsTold w gtid opid term
     → (e : Entry) × (entry_at w.chosen opid.position ≡ Some e) × (e.opid ≡ opid) × (gtid_of e ≡ Some gtid)
-        × ((id : ℕ) (s : Soft) → Leads w id s → term ≤ (w.nodes id).durable.term → entry_at (w.nodes id).durable.log opid.position ≡ Some e)
+    × ((id : ℕ) (s : Soft) → Leads w id s → term ≤ (w.nodes id).durable.term → entry_at (w.nodes id).durable.log opid.position ≡ Some e)
 
 -- no term is led twice, and each running leader was elected in its term
 pub record OneLeaderATerm (w : WorldState) (held : List Election) : Type 0 where

@@ -109,7 +109,7 @@ waiting commit pending = filter (λ (p : Pending). not (is_settled commit p)) pe
 abbrev pub advance_to : Layout → ℕ → Durable → Soft → List Action → List Say → ℕ → Step
 advance_to ring me after s first says commit =
     stepped (first ++ follow_actions ring me after commit) [] (says ++ committeds after.term commit s.pending)
-        (record s { commit = commit; pending = waiting commit s.pending })
+    (record s { commit = commit; pending = waiting commit s.pending })
 
 unfoldable pub advance : Layout → ℕ → Durable → Soft → List Action → List Say → Step
 advance ring me d s first says =

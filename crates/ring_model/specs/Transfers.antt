@@ -52,7 +52,7 @@ transfer_refusal ring me s target =
 abbrev pub begin_round : ℕ → Durable → Soft → ℕ → ℕ → Step
 begin_round me d s client target =
     stepped [] (message me target (body.MockStart (record { term = d.term; round = suc s.rounds; last = last d.log })) ∷ []) []
-        (record s { rounds = suc s.rounds; transfer = transfer.Mock target (suc s.rounds) client })
+    (record s { rounds = suc s.rounds; transfer = transfer.Mock target (suc s.rounds) client })
 
 unfoldable pub ask_transfer : Layout → ℕ → Durable → Soft → ℕ → ℕ → Step
 ask_transfer ring me d s client target = elim (transfer_refusal ring me s target) [ Some c ↦ refused s client c | None ↦ begin_round me d s client target ]
@@ -111,14 +111,14 @@ own_failed me d sent = if passes d sent.last then [] else me ∷ []
 abbrev pub opening : Layout → ℕ → Durable → ℕ → MockStart → List Message
 opening ring me d from sent =
     elim (verdict ring from me (own_passed me d sent) (own_failed me d sent)) [
-      Some ok ↦ mock_result me from sent.term sent.round ok ∷ []
-    | None ↦ mock_requests me sent.term sent.round sent.last ring.members
+      | Some ok ↦ mock_result me from sent.term sent.round ok ∷ []
+      | None ↦ mock_requests me sent.term sent.round sent.last ring.members
     ]
 
 abbrev pub begin_mock : Layout → ℕ → Durable → Soft → ℕ → MockStart → Step
 begin_mock ring me d s from sent =
     stepped [] (opening ring me d from sent) []
-        (record s { mock = mock.On from sent.round sent.last (own_passed me d sent) (own_failed me d sent) })
+    (record s { mock = mock.On from sent.round sent.last (own_passed me d sent) (own_failed me d sent) })
 
 -- a voter that follows in the same term, and keeps no mock state of this leader's round or a later one
 unfoldable pub on_mock_start : Layout → ℕ → Durable → Soft → ℕ → MockStart → Step
@@ -142,7 +142,7 @@ deciding me leader term round None (Some ok) = mock_result me leader term round 
 abbrev pub with_answer : Layout → ℕ → Durable → Soft → ℕ → ℕ → Opid → List ℕ → List ℕ → List ℕ → List ℕ → Step
 with_answer ring me d s leader round asked passed failed more_passed more_failed =
     stepped [] (deciding me leader d.term round (verdict ring leader me passed failed) (verdict ring leader me more_passed more_failed)) []
-        (record s { mock = mock.On leader round asked more_passed more_failed })
+    (record s { mock = mock.On leader round asked more_passed more_failed })
 
 -- a second answer of one voter changes nothing
 abbrev pub count_answer : Layout → ℕ → Durable → Soft → ℕ → MockReply → ℕ → Opid → List ℕ → List ℕ → Step

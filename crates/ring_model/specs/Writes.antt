@@ -101,8 +101,8 @@ write_entry_step ring me d s client t e =
 unfoldable pub write : Layout → ℕ → Durable → Soft → ℕ → List Change → Step
 write ring me d s client changes =
     elim (write_refusal ring me d s changes) [
-      Some c ↦ refused s client c
-    | None ↦ write_entry_step ring me d s client (write_txn ring me d changes) (write_entry ring me d changes)
+      | Some c ↦ refused s client c
+      | None ↦ write_entry_step ring me d s client (write_txn ring me d changes) (write_entry ring me d changes)
     ]
 
 -- ---- rotate

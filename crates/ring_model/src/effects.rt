@@ -1,9 +1,9 @@
-use std::alloc::Global;
-
-use ring_types::{Duplicate, Entry, Gtid, List, Memory, NodeId, Opid, Pair, RowRefusal, Text, Value, Vote};
-
 use crate::messages::Message;
 use crate::nodes::Soft;
+use ring_types::{
+    Duplicate, Entry, Gtid, List, Memory, NodeId, Opid, Pair, RowRefusal, Text, Value, Vote,
+};
+use std::alloc::Global;
 
 /// A durable action: one switch of a control block.
 #[derive(Debug, PartialEq, Eq, Drop)]
@@ -52,9 +52,15 @@ pub enum Cause {
     Transferring,
     Invalid(RowRefusal),
     /// A prepared transaction writes this key.
-    Locked { table: Text, key: Value, holder: Opid },
+    Locked {
+        table: Text,
+        key: Value,
+        holder: Opid,
+    },
     /// The group would have so many bytes.
-    TooLarge { bytes: u64 },
+    TooLarge {
+        bytes: u64,
+    },
     Exhausted,
     LastFile,
     BadTarget,

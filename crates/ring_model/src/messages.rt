@@ -1,8 +1,6 @@
-use std::alloc::Global;
-
-use ring_types::{Change, Duplicate, Entry, List, Memory, NodeId, Opid, Vote};
-
 use crate::effects::What;
+use ring_types::{Change, Duplicate, Entry, List, Memory, NodeId, Opid, Vote};
+use std::alloc::Global;
 
 /// A message from a node or a client to another. Numbers below 65,536 are members'.
 #[derive(Debug, PartialEq, Eq, Drop)]

@@ -1,6 +1,5 @@
+use ring_types::{Duplicate, Entry, Grant, Gtid, List, Memory, NodeId, Opid, Pair, Vote};
 use std::alloc::Global;
-
-use ring_types::{Duplicate, Entry, Gtid, Grant, List, Memory, NodeId, Opid, Pair, Vote};
 
 /// What a running node does in its term (Raft).
 #[derive(Clone, Copy, Debug, PartialEq, Eq)]
@@ -33,9 +32,16 @@ pub struct Pending {
 pub enum Transfer {
     Off,
     /// A mock election of this round is on.
-    Mock { target: NodeId, round: u64, client: u32 },
+    Mock {
+        target: NodeId,
+        round: u64,
+        client: u32,
+    },
     /// The mock election passed: the target is told to elect itself once it has the whole log.
-    Handing { target: NodeId, client: u32 },
+    Handing {
+        target: NodeId,
+        client: u32,
+    },
 }
 
 /// The mock election that a node holds for a leader (MyRaft). `last` is the leader's last opid;

@@ -1,12 +1,10 @@
 ghost use Rattle.std.specs.Prelude.{◌≡◌, IfOk};
 
-use std::alloc::Global;
-
-use ring_types::{Duplicate, Entry, Keep, List, Memory, NodeId};
-
 use crate::effects::Say;
 use crate::messages::{Input, Message};
 use crate::nodes::{Durable, Soft};
+use ring_types::{Duplicate, Entry, Keep, List, Memory, NodeId};
+use std::alloc::Global;
 
 /// A node as it is shown; `soft` is None where the node is down.
 #[derive(Debug, PartialEq, Eq, Drop)]

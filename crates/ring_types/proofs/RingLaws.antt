@@ -142,7 +142,7 @@ members_in_range regions [] h = refl
 members_in_range regions (m ∷ ms) h =
     let b = both_true (part_fits m) (list_all part_fits ms) h in
     as_and (member_fits (member_from regions m)) (list_all member_fits (map (member_from regions) ms))
-      (member_in_range (nat_le 1 m.id) (nat_le m.id 65535) (is_name m.region) (address_fits m.address) b.0) (members_in_range regions ms b.1)
+    (member_in_range (nat_le 1 m.id) (nat_le m.id 65535) (is_name m.region) (address_fits m.address) b.0) (members_in_range regions ms b.1)
 
 -- each kind of part is in its range
 pub record InRange (p : RingParts) : Type 0 where

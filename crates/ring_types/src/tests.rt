@@ -1,9 +1,9 @@
 //! What a ring is refused for, in which order, and what an accepted ring answers.
+use crate::values::Gtid;
 use crate::{
     Address, BuildError, Change, Column, Duplicate, Entry, Kind, List, MemberPart, Memory, NodeId,
     Opid, Payload, RegionId, Ring, RingParts, Schema, Shape, Table, Text, Txn, Value,
 };
-use crate::values::Gtid;
 use std::alloc::Global;
 use std::process::Abort;
 use std::test::Fail;
@@ -38,7 +38,13 @@ fn texts(alloc: Global, names: &[&str]) -> Result<List<Text>, Memory> {
     Ok(made)
 }
 
-fn node(alloc: Global, id: u32, region: &str, kind: Kind, server: u128) -> Result<MemberPart, Memory> {
+fn node(
+    alloc: Global,
+    id: u32,
+    region: &str,
+    kind: Kind,
+    server: u128,
+) -> Result<MemberPart, Memory> {
     Ok(MemberPart {
         id,
         region: text(alloc, region)?,
@@ -114,8 +120,16 @@ fn good(alloc: Global) -> Result<RingParts, Memory> {
     })
 }
 
-fn add_node(alloc: Global, parts: &mut RingParts, id: u32, region: &str, server: u128) -> Result<(), Memory> {
-    parts.members.push(node(alloc, id, region, Kind::Full, server)?)
+fn add_node(
+    alloc: Global,
+    parts: &mut RingParts,
+    id: u32,
+    region: &str,
+    server: u128,
+) -> Result<(), Memory> {
+    parts
+        .members
+        .push(node(alloc, id, region, Kind::Full, server)?)
 }
 
 fn add_client(alloc: Global, parts: &mut RingParts, id: u32) -> Result<(), Memory> {
@@ -142,10 +156,17 @@ fn add_regions(alloc: Global, parts: &mut RingParts) -> Result<(), Memory> {
 
 fn add_school(alloc: Global, parts: &mut RingParts) -> Result<(), Memory> {
     add_region(alloc, parts, "school")?;
-    parts.members.push(node(alloc, 12, "school", Kind::Learner, 1012)?)
+    parts
+        .members
+        .push(node(alloc, 12, "school", Kind::Learner, 1012)?)
 }
 
-fn add_table(alloc: Global, parts: &mut RingParts, name: &str, names: &[&str]) -> Result<(), Memory> {
+fn add_table(
+    alloc: Global,
+    parts: &mut RingParts,
+    name: &str,
+    names: &[&str],
+) -> Result<(), Memory> {
     parts.schema.tables.push(table(alloc, name, names)?)
 }
 
@@ -189,7 +210,12 @@ const FAULTS: [(Fault, BuildError); 13] = [
 ];
 
 /// The answer for good parts spoilt twice, or once where both faults are one.
-fn answer(rt: &impl Abort, alloc: Global, fault: Fault, other: Fault) -> Result<Option<BuildError>, Memory> {
+fn answer(
+    rt: &impl Abort,
+    alloc: Global,
+    fault: Fault,
+    other: Fault,
+) -> Result<Option<BuildError>, Memory> {
     let mut parts = good(alloc)?;
     spoil(alloc, &mut parts, other)?;
     if other != fault {
