@@ -4,8 +4,8 @@ ghost use Rattle.ring_types.specs.Rings.{runs_engine};
 ghost use Rattle.report_text.specs.Report as spec;
 
 use crate::appending::{put, put_field};
-use crate::words::{put_entry, put_set};
 use crate::table_text::put_applied_tables;
+use crate::words::{put_entry, put_set};
 use ring_model::{Durable, Role, Shown, Soft};
 use ring_plain::gtids;
 use ring_types::{Entry, Kind, Memory, NodeId, Ring, ServerSet, Vote};

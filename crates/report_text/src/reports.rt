@@ -38,12 +38,7 @@ fn put_chosen_lines(out: &mut Vec<u8>, chosen: &[Entry]) -> Result<(), Memory>
     Ok(())
 }
 
-fn put_blocks(
-    alloc: Global,
-    out: &mut Vec<u8>,
-    ring: &Ring,
-    nodes: &[Shown],
-) -> Result<(), Memory>
+fn put_blocks(alloc: Global, out: &mut Vec<u8>, ring: &Ring, nodes: &[Shown]) -> Result<(), Memory>
     ensures { OnOk result (out.new.items ≡ out.old.items ++ flat_map (spec.block ring.now) nodes.now) }
 {
     for node in nodes {
@@ -92,12 +87,7 @@ fn put_kept_lines(out: &mut Vec<u8>, cuts: &[Kept]) -> Result<(), Memory>
 }
 
 #[tactic(auto, unfolding(crate::specs::Report::report))]
-fn put_report(
-    alloc: Global,
-    out: &mut Vec<u8>,
-    ring: &Ring,
-    world: &World,
-) -> Result<(), Memory>
+fn put_report(alloc: Global, out: &mut Vec<u8>, ring: &Ring, world: &World) -> Result<(), Memory>
     ensures { OnOk result (out.new.items ≡ out.old.items ++ spec.report ring.now world.now) }
 {
     put_head_line(out, world)?;

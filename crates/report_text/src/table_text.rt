@@ -48,11 +48,7 @@ fn put_table(out: &mut Vec<u8>, table: &Table, rows: &[List<Value>]) -> Result<(
     put_row_lines(out, rows)
 }
 
-fn put_tables(
-    out: &mut Vec<u8>,
-    tables: &[Table],
-    rows: &[List<List<Value>>],
-) -> Result<(), Memory>
+fn put_tables(out: &mut Vec<u8>, tables: &[Table], rows: &[List<List<Value>>]) -> Result<(), Memory>
     ensures { OnOk result (out.new.items ≡ out.old.items ++ spec.tables_text tables.now rows.now) }
 {
     match tables {

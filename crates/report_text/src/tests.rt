@@ -2,9 +2,7 @@
 use crate::sayings::put_saying;
 use crate::words::put_value;
 use crate::{write_node, write_report};
-use ring_model::{
-    Cause, Durable, Kept, Mock, Role, Said, Say, Shown, Soft, Transfer, What, World,
-};
+use ring_model::{Cause, Durable, Kept, Mock, Role, Said, Say, Shown, Soft, Transfer, What, World};
 use ring_types::{
     Change, Column, Entry, Gtid, Kind, List, MemberPart, Memory, NodeId, Opid, Pair, Payload,
     RegionId, Ring, RingParts, RowRefusal, Schema, Shape, Table, Text, Txn, Value, Vote,

@@ -12,7 +12,9 @@ fn put_uuid(out: &mut Vec<u8>, server: u128) -> Result<(), Memory>
     ensures { OnOk result (out.new.items ≡ out.old.items ++ spec.uuid_text server) }
 {
     let mut buffer = Uuid::encode_buffer();
-    let text = Uuid::from_u128(server).hyphenated().encode_lower(&mut buffer);
+    let text = Uuid::from_u128(server)
+        .hyphenated()
+        .encode_lower(&mut buffer);
     put(out, text.as_bytes())
 }
 
@@ -44,7 +46,11 @@ fn digit(half: u8) -> u8
     requires { half < 16 }
     ensures { result ≡ hex_digit lower half }
 {
-    if half < 10 { b'0' + half } else { b'a' + half - 10 }
+    if half < 10 {
+        b'0' + half
+    } else {
+        b'a' + half - 10
+    }
 }
 
 fn put_byte(out: &mut Vec<u8>, byte: u8) -> Result<(), Memory>
