@@ -6,7 +6,9 @@ ghost use Rattle.ring_types.specs.Rings.{is_in_range, built};
 
 use crate::faults::{RingError, Within};
 use crate::keys::check_keys;
-use crate::tables::{name_at, names_at, number_at, read_clients, read_nodes, read_tables, tables_at};
+use crate::tables::{
+    name_at, names_at, number_at, read_clients, read_nodes, read_tables, tables_at,
+};
 use ring_types::{BuildError, List, Ring, RingParts, Schema, Text};
 use std::alloc::Global;
 use toml::Table;

@@ -70,12 +70,7 @@ pub(crate) fn number_at(
     in_range(alloc, within, key, number_in(low, high, value))
 }
 
-fn kind_at(
-    alloc: Global,
-    within: Within,
-    key: &str,
-    table: &toml::Table,
-) -> Result<Kind, RingError>
+fn kind_at(alloc: Global, within: Within, key: &str, table: &toml::Table) -> Result<Kind, RingError>
     ensures { Gives (value_at kind_in within key.now (table_view table.now)) result }
 {
     let value = found(alloc, within, key, table)?;
@@ -129,12 +124,7 @@ fn optional_address(
     ensures { Gives (option_at address_in within key.now (table_view table.now)) result }
 {
     match member(table, key) {
-        Some(value) => Ok(Some(in_range(
-            alloc,
-            within,
-            key,
-            address_in(alloc, value)?,
-        )?)),
+        Some(value) => Ok(Some(in_range(alloc, within, key, address_in(alloc, value)?)?)),
         None => Ok(None),
     }
 }

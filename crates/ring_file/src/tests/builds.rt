@@ -21,14 +21,30 @@ fn refused(
 #[test]
 fn each_cause_of_the_building(rt: HostRuntime) -> Result<(), Fail> {
     refused(&rt, (10, "id = 1"), BuildError::TwiceNamed)?;
-    refused(&rt, (3, "regions = [\"east\", \"east\"]"), BuildError::TwiceNamed)?;
-    refused(&rt, (13, "uuid = \"3E11FA4771CA11E19E33C80AA9429562\""), BuildError::TwiceNamed)?;
+    refused(
+        &rt,
+        (3, "regions = [\"east\", \"east\"]"),
+        BuildError::TwiceNamed,
+    )?;
+    refused(
+        &rt,
+        (13, "uuid = \"3E11FA4771CA11E19E33C80AA9429562\""),
+        BuildError::TwiceNamed,
+    )?;
     refused(&rt, (1, "home = \"west\""), BuildError::NoRegion)?;
     refused(&rt, (11, "region = \"west\""), BuildError::NoRegion)?;
-    refused(&rt, (3, "regions = [\"east\", \"west\"]"), BuildError::NoVoter)?;
+    refused(
+        &rt,
+        (3, "regions = [\"east\", \"west\"]"),
+        BuildError::NoVoter,
+    )?;
     refused(&rt, (22, "name = \"t\""), BuildError::BadSchema)?;
     refused(&rt, (23, "columns = []"), BuildError::BadSchema)?;
-    refused(&rt, (20, "columns = [\"id int\", \"id int\"]"), BuildError::BadSchema)?;
+    refused(
+        &rt,
+        (20, "columns = [\"id int\", \"id int\"]"),
+        BuildError::BadSchema,
+    )?;
     Ok(())
 }
 
@@ -39,8 +55,14 @@ fn the_greatest_and_least_values_are_read(rt: HostRuntime) -> Result<(), Fail> {
         (10, "id = 0xFF"),
         (14, ""),
         (16, "id = 4294967295"),
-        (20, "columns = [\"id int\", \"name text 16000\", \"b text 1\"]"),
-        (13, "uuid = \"urn:uuid:3e11fa47-71ca-11e1-9e33-c80aa9429563\""),
+        (
+            20,
+            "columns = [\"id int\", \"name text 16000\", \"b text 1\"]",
+        ),
+        (
+            13,
+            "uuid = \"urn:uuid:3e11fa47-71ca-11e1-9e33-c80aa9429563\"",
+        ),
     ];
     for edit in cases {
         answers(&rt, edit, (99, ""), "ring")?;

@@ -51,7 +51,10 @@ fn a_needed_key_is_missing(rt: HostRuntime) -> Result<(), Fail> {
         missing(&rt, line, place)?;
     }
     let bare = "version = 1\nhome = \"a\"\ndatabase = \"d\"\nregions = []\n";
-    assert_eq!(rt; answer(rt.alloc(), bare.as_bytes())?.as_str(), "node is missing");
+    assert_eq!(rt;
+        answer(rt.alloc(), bare.as_bytes())?.as_str(),
+        "node is missing"
+    );
     Ok(())
 }
 
@@ -122,7 +125,11 @@ fn a_value_in_a_table_is_out_of_range(rt: HostRuntime) -> Result<(), Fail> {
         (20, "columns = [\"id text 16001\"]", "table[1].columns"),
         (20, "columns = [\"id text 99999999\"]", "table[1].columns"),
         (20, "columns = [[\"id int\"]]", "table[1].columns"),
-        (23, "columns = [\"id int\", \"a.b int\"]", "table[2].columns"),
+        (
+            23,
+            "columns = [\"id int\", \"a.b int\"]",
+            "table[2].columns",
+        ),
     ];
     for (line, text, place) in cases {
         out_of_range(&rt, line, text, place)?;
@@ -136,9 +143,18 @@ fn an_array_of_tables_is_something_else(rt: HostRuntime) -> Result<(), Fail> {
     let cases = [
         ("node = 1\n", "node has a value outside its range"),
         ("[node]\nid = 1\n", "node has a value outside its range"),
-        ("node = [{id = 1}, 2]\n", "node has a value outside its range"),
-        ("node = []\nclient = \"c\"\n", "client has a value outside its range"),
-        ("node = [{}]\ntable = [[]]\n", "table has a value outside its range"),
+        (
+            "node = [{id = 1}, 2]\n",
+            "node has a value outside its range",
+        ),
+        (
+            "node = []\nclient = \"c\"\n",
+            "client has a value outside its range",
+        ),
+        (
+            "node = [{}]\ntable = [[]]\n",
+            "table has a value outside its range",
+        ),
         ("node = [{}]\n", "node[1].id is missing"),
     ];
     for (tail, wanted) in cases {
@@ -154,15 +170,47 @@ fn of_two_faults_the_first_in_order_is_named(rt: HostRuntime) -> Result<(), Fail
         ((0, ""), (1, "homes = 1"), "homes is not known"),
         ((1, "home = 1"), (2, ""), "database is missing"),
         ((1, ""), (2, ""), "home is missing"),
-        ((2, "database = 1"), (1, "home = 1"), "home has a value outside its range"),
-        ((3, "regions = 1"), (5, "ids = 1"), "regions has a value outside its range"),
-        ((10, ""), (5, "id = 0"), "node[1].id has a value outside its range"),
+        (
+            (2, "database = 1"),
+            (1, "home = 1"),
+            "home has a value outside its range",
+        ),
+        (
+            (3, "regions = 1"),
+            (5, "ids = 1"),
+            "regions has a value outside its range",
+        ),
+        (
+            (10, ""),
+            (5, "id = 0"),
+            "node[1].id has a value outside its range",
+        ),
         ((13, ""), (10, "id = 0"), "node[2].uuid is missing"),
-        ((12, "kind = 1"), (13, "port = 1"), "node[2].port is not known"),
-        ((17, ""), (14, "address = 1"), "node[2].address has a value outside its range"),
-        ((19, ""), (16, "id = 1"), "client[1].id has a value outside its range"),
-        ((20, "columns = 1"), (22, ""), "table[1].columns has a value outside its range"),
-        ((1, "home = \"west\""), (23, "columns = 1"), "table[2].columns has a value outside its range"),
+        (
+            (12, "kind = 1"),
+            (13, "port = 1"),
+            "node[2].port is not known",
+        ),
+        (
+            (17, ""),
+            (14, "address = 1"),
+            "node[2].address has a value outside its range",
+        ),
+        (
+            (19, ""),
+            (16, "id = 1"),
+            "client[1].id has a value outside its range",
+        ),
+        (
+            (20, "columns = 1"),
+            (22, ""),
+            "table[1].columns has a value outside its range",
+        ),
+        (
+            (1, "home = \"west\""),
+            (23, "columns = 1"),
+            "table[2].columns has a value outside its range",
+        ),
         ((1, "x = "), (2, ""), "not TOML"),
     ];
     for (one, two, wanted) in cases {

@@ -11,13 +11,21 @@ const FIRST: u128 = 0x3e11_fa47_71ca_11e1_9e33_c80a_a942_9562;
 /// A ring text with a node for each letter: `e`, `w`, `n` and `s` are full nodes in these regions,
 /// `t` is a logtailer and `l` a learner in the east.
 fn ring_text(alloc: Global, regions: &str, nodes: &str) -> Result<String, AllocError> {
-    let mut text = format!(in alloc; "version = 1\nhome = \"east\"\ndatabase = \"app\"\nregions = [{regions}]\n")?;
+    let mut text = format!(in alloc;
+        "version = 1\nhome = \"east\"\ndatabase = \"app\"\nregions = [{regions}]\n"
+    )?;
     let mut number = 1u8;
     for letter in nodes.chars() {
         let (region, kind) = place_of(letter);
         let last = number.wrapping_add(0x61);
-        write!(text, "[[node]]\nid = {number}\nregion = \"{region}\"\nkind = \"{kind}\"\n")?;
-        write!(text, "uuid = \"3e11fa47-71ca-11e1-9e33-c80aa94295{last:02x}\"\n")?;
+        write!(
+            text,
+            "[[node]]\nid = {number}\nregion = \"{region}\"\nkind = \"{kind}\"\n"
+        )?;
+        write!(
+            text,
+            "uuid = \"3e11fa47-71ca-11e1-9e33-c80aa94295{last:02x}\"\n"
+        )?;
         number = number.wrapping_add(1);
     }
     text.push_str("[[table]]\nname = \"t\"\ncolumns = [\"id int\", \"name text 20\"]\n")?;
@@ -86,7 +94,10 @@ fn reads(
     let text = ring_text(rt.alloc(), regions, nodes)?;
     let ring = read_ring(rt.alloc(), text.as_bytes())?;
     assert_eq!(rt; described(rt.alloc(), &ring)?.as_str(), wanted);
-    assert_eq!(rt; schema_of(rt.alloc(), &ring)?.as_str(), "app t id:int name:20");
+    assert_eq!(rt;
+        schema_of(rt.alloc(), &ring)?.as_str(),
+        "app t id:int name:20"
+    );
     let mut server = FIRST;
     for member in ring.members().as_slice() {
         assert_eq!(rt; member.server, server);
@@ -106,8 +117,18 @@ fn rings_are_read(rt: HostRuntime) -> Result<(), Fail> {
     reads(&rt, east, "ete", "1 east 1F1 2T1 3F1")?;
     reads(&rt, east, "el", "1 east 1F1 2L1")?;
     reads(&rt, both, "eeewww", "1 east west 1F1 2F1 3F1 4F2 5F2 6F2")?;
-    reads(&rt, both, "eeewwww", "1 east west 1F1 2F1 3F1 4F2 5F2 6F2 7F2")?;
-    reads(&rt, four, "eeewns", "1 east west north south 1F1 2F1 3F1 4F2 5F3 6F4")
+    reads(
+        &rt,
+        both,
+        "eeewwww",
+        "1 east west 1F1 2F1 3F1 4F2 5F2 6F2 7F2",
+    )?;
+    reads(
+        &rt,
+        four,
+        "eeewns",
+        "1 east west north south 1F1 2F1 3F1 4F2 5F3 6F4",
+    )
 }
 
 #[test]
