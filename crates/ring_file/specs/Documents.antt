@@ -7,7 +7,6 @@ use Rattle.ring_types.specs.declared.members.MemberPart.{MemberPart}
 use Rattle.ring_types.specs.declared.members.Address.{Address}
 use Rattle.ring_types.specs.declared.members.RingParts.{RingParts}
 use Rattle.ring_types.specs.declared.schemas.Table.{Table}
-use Rattle.ring_types.specs.declared.schemas.Schema.{Schema}
 use Rattle.ring_types.specs.declared.rings.BuildError.{BuildError}
 use Rattle.ring_types.specs.declared.rings.BuildError.TheVariants as refusal
 use Rattle.ring_types.specs.Rings.{Layout, built}

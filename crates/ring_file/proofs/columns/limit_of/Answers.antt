@@ -1,5 +1,5 @@
 -- A numeral that a 16-bit number has no room for is above every limit.
-use Rattle.std.proofs.Common.{◌≡◌, ℕ, ◌<◌, ◌≤◌, ◌^◌, true, false, List, length, Option, None, Result, Err, rules, arith}
+use Rattle.std.proofs.Common.{◌≡◌, ℕ, ◌<◌, ◌≤◌, ◌^◌, true, List, length, None, Result, Err, rules, arith}
 use Rattle.std.specs.List.{list_all}
 use Rattle.std.specs.Str.Parse.{ParsesUnsigned, digits_value}
 use Rattle.std.proofs.lemmas.Bool.{and_parts}

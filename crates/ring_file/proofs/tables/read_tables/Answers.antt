@@ -1,8 +1,5 @@
 -- the item is a table, which is read and put behind those so far
-use Rattle.std.proofs.Common.{◌≡◌, None, Some, arith, sym, ◌∙◌, option_map}
-use Rattle.std.proofs.lemmas.Grind.{common_steps}
-use Rattle.toml.specs.Data.{as_table}
-use Rattle.toml.specs.View.{view, table_view}
+use Rattle.std.proofs.Common.{sym, ◌∙◌}
 use Rattle.ring_file.specs.Documents.{table_of}
 use Rattle.ring_file.proofs.Joined.{after-table, after-other}
 use Rattle.ring_file.proofs.tables.read_tables.Goals.{in-Some+in_ok-read_table+in_ok-push, in_default}

@@ -1,5 +1,5 @@
 -- A text that is refused is none that parses.
-use Rattle.std.proofs.Common.{◌≡◌, List, ℕ, Option, Some, None, Result, Err, IsOk, ◌↔◌, option_map, refl, ◌∙◌}
+use Rattle.std.proofs.Common.{◌≡◌, List, ℕ, Option, Some, None, Result, Err, IsOk, ◌↔◌, option_map, refl}
 use Rattle.std.proofs.lemmas.Bool.{false≢true}
 use Rattle.std.specs.Int.{from_be_bytes, w128}
 use Rattle.ring_file.proofs.values.uuid_of.Goals as goal
