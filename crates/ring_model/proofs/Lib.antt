@@ -24,5 +24,6 @@ pub mod Beat
 pub mod Writes
 pub mod Transfers
 pub mod Dispatch
+pub mod Telling
 pub mod Events
 pub mod Runs
