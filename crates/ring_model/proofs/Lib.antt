@@ -25,5 +25,6 @@ pub mod Writes
 pub mod Transfers
 pub mod Dispatch
 pub mod Telling
+pub mod Told
 pub mod Events
 pub mod Runs
