@@ -1,5 +1,5 @@
 -- Each event keeps the invariant: it makes at most one node act, whose step owes nothing, or it moves a cursor alone; and it holds just the elections that the definition finds.
-use Rattle.std.proofs.Common.{◌≡◌, ℕ, ◌+◌, ◌-◌, ◌<◌, ◌≤◌, ◌==◌, ◌⊎◌, ◌&&◌, ◌||◌, [], ◌∷◌, ◌++◌, ◌∙◌, if◌then◌else◌, Bool, List, None, Option, Some, ap, append_assoc, arith, false, length, refl, subst, suc, sym, take, true, zero}
+use Rattle.std.proofs.Common.{◌≡◌, ℕ, ◌<◌, ◌≤◌, [], ◌∷◌, ◌++◌, ◌∙◌, if◌then◌else◌, Bool, List, None, Option, Some, ap, append_assoc, arith, false, length, refl, subst, suc, sym, take, true, zero}
 use Rattle.std.proofs.lemmas.List.{append-nil}
 use Rattle.std.specs.List.{Contains}
 use Rattle.ring_types.specs.declared.entries.Entry.{Entry}
@@ -23,7 +23,6 @@ use Rattle.ring_model.proofs.Lists.{none_contained}
 use Rattle.ring_model.proofs.Invariant.{As_leader, By_reply, HasAcked, History, IsNode, IsRunning, IsSealed, Nothing_yet}
 use Rattle.ring_model.proofs.Growth.{agree_less, agree_trans, grow_sealed}
 use Rattle.ring_model.proofs.Following.{agree_same}
-use Rattle.ring_model.proofs.Leading.{led_log}
 use Rattle.ring_model.proofs.Paths.{IsLed, SameLog}
 use Rattle.ring_model.proofs.Turns.{IsWorld, TurnedTo, cut_keeps, down_keeps, restart_keeps, whole_keeps}
 use Rattle.ring_model.proofs.Dispatch.{IsGiven, step_row, step_whole}
@@ -118,7 +117,7 @@ handled_over ring w h id i (Cut count) (Some s) up k given =
     let st = step ring id d s i in
     let x = cut_keeps ring w h id count s st k (step_row ring h id d s i k.history (k.nodes id) (k.running id s up) (subst (λ (ms : List Message). IsGiven ms id i) (sym k.messages) given)) in
     by_turn ring w (ended w id d st (Cut count)) h id (Handle i) (held_by id d s st (Cut count)) x
-      (told_by_silence ring w h id (record { durable = all_done d (take count st.plan.actions); soft = None }) (count ∷ []) (held_by id d s st (Cut count)) x (λ o so. absurd cc))
+    (told_by_silence ring w h id (record { durable = all_done d (take count st.plan.actions); soft = None }) (count ∷ []) (held_by id d s st (Cut count)) x (λ o so. absurd cc))
 
 -- a message that a task gives was sent, and to this node
 abbrev pub MayTake : List Message → ℕ → Task → Type 0
@@ -140,18 +139,18 @@ turn_over ring w h id (Handle i) completion k given = handled_over ring w h id i
 turn_over ring w h id GoDown completion k given =
     let x = down_keeps ring w h id (w.nodes id).durable [] (record { term = refl; votes = refl; log = refl; applied = refl }) k in
     subst (λ (e : List Election). Carried ring w (turn ring w id GoDown completion) h e (Some (id, GoDown))) (sym (down_holds_none ring id (w.nodes id).durable (w.nodes id).soft completion))
-      (by_turn ring w (turn ring w id GoDown completion) h id GoDown [] x (told_by_silence ring w h id (record { durable = (w.nodes id).durable; soft = None }) [] [] x (λ o so. absurd cc)))
+    (by_turn ring w (turn ring w id GoDown completion) h id GoDown [] x (told_by_silence ring w h id (record { durable = (w.nodes id).durable; soft = None }) [] [] x (λ o so. absurd cc)))
 turn_over ring w h id ComeUp Whole k given =
     let x = restart_keeps ring w h id k in
     subst (λ (e : List Election). Carried ring w (turn ring w id ComeUp Whole) h e (Some (id, ComeUp))) (sym (up_holds_none ring id (w.nodes id).durable (w.nodes id).soft Whole))
-      (by_turn ring w (turn ring w id ComeUp Whole) h id ComeUp [] x
-        (told_by_silence ring w h id (record { durable = recover (w.nodes id).durable; soft = Some (fresh_soft (w.nodes id).durable) }) [] [] x
-          (λ o so. let is : fresh_soft (w.nodes id).durable ≡ o = cc in ap (λ (s : Soft). s.pending) (sym is))))
+    (by_turn ring w (turn ring w id ComeUp Whole) h id ComeUp [] x
+    (told_by_silence ring w h id (record { durable = recover (w.nodes id).durable; soft = Some (fresh_soft (w.nodes id).durable) }) [] [] x
+    (λ o so. let is : fresh_soft (w.nodes id).durable ≡ o = cc in ap (λ (s : Soft). s.pending) (sym is))))
 turn_over ring w h id ComeUp (Cut count) k given =
     let e : Durable = all_done (w.nodes id).durable (take count (restart_actions (w.nodes id).durable)) in
     let x = down_keeps ring w h id e (count ∷ []) (restart_cut (w.nodes id).durable count) k in
     subst (λ (e : List Election). Carried ring w (turn ring w id ComeUp (Cut count)) h e (Some (id, ComeUp))) (sym (up_holds_none ring id (w.nodes id).durable (w.nodes id).soft (Cut count)))
-      (by_turn ring w (turn ring w id ComeUp (Cut count)) h id ComeUp [] x (told_by_silence ring w h id (record { durable = e; soft = None }) (count ∷ []) [] x (λ o so. absurd cc)))
+    (by_turn ring w (turn ring w id ComeUp (Cut count)) h id ComeUp [] x (told_by_silence ring w h id (record { durable = e; soft = None }) (count ∷ []) [] x (λ o so. absurd cc)))
 
 -- only members act
 member_over : (ring : Layout) (w : WorldState) (h : History) (id : ℕ) (task : Task) (completion : Completion) → IsWorld ring w h → MayTake w.messages id task

@@ -1,5 +1,5 @@
 -- Every run of every ring is safe, and each leader's region is covered by the later elections: the invariant holds in the first world and each event keeps it.
-use Rattle.std.proofs.Common.{◌≡◌, ℕ, ◌+◌, ◌-◌, ◌<◌, ◌≤◌, ◌==◌, ◌⊎◌, ◌&&◌, ◌||◌, [], ◌∷◌, ◌++◌, ◌∙◌, if◌then◌else◌, List, None, ap, append_assoc, arith, length, refl, subst, sym}
+use Rattle.std.proofs.Common.{◌≡◌, ℕ, ◌<◌, [], ◌∷◌, ◌++◌, ◌∙◌, List, None, ap, append_assoc, arith, length, refl, subst, sym}
 use Rattle.std.proofs.lemmas.List.{append-nil}
 use Rattle.std.specs.List.{Contains}
 use Rattle.ring_types.specs.declared.entries.Entry.{Entry}
@@ -8,13 +8,10 @@ use Rattle.ring_model.specs.Safety.{Agree, AppliedPrefix, ChosenByLeader, Chosen
 use Rattle.ring_model.specs.declared.nodes.Durable.{Durable}
 use Rattle.ring_model.specs.Runs.{Election, Move, acting, elections, elections_from, event_elections, world, world_from}
 use Rattle.ring_model.specs.Worlds.{WorldState, first_world, world_step}
-use Rattle.ring_model.specs.Steps.{committed}
 use Rattle.ring_model.proofs.Lists.{contains_listed}
 use Rattle.ring_model.proofs.Invariant.{History, IsSealed}
 use Rattle.ring_model.proofs.Cover.{is_election, leaders_covered}
 use Rattle.ring_model.proofs.Following.{agree_same, log_match}
-use Rattle.ring_model.proofs.Paths.{elected}
-use Rattle.ring_model.proofs.Matching.{never_torn}
 use Rattle.ring_model.proofs.Turns.{IsWorld, in_chosen}
 use Rattle.ring_model.proofs.Told.{leader_in, sealed_in_book, told_stands}
 use Rattle.ring_model.proofs.Events.{Carried, carried_join, event_over, first_history, first_holds, first_told, line_whole}

@@ -1,5 +1,5 @@
 -- What a step tells a client: only a leader says that a write is committed, and only of an entry of its log up to its commit count; for its waiting writes stand in its log.
-use Rattle.std.proofs.Common.{◌≡◌, ℕ, ◌+◌, ◌-◌, ◌<◌, ◌≤◌, ◌==◌, ◌⊎◌, ◌&&◌, ◌||◌, [], ◌∷◌, ◌++◌, ◌∙◌, if◌then◌else◌, Bool, List, None, Option, Some, ap, arith, false, inl, inr, length, map, not, refl, subst, suc, sym, true, zero}
+use Rattle.std.proofs.Common.{◌≡◌, ℕ, ◌+◌, ◌-◌, ◌≤◌, ◌==◌, ◌&&◌, ◌||◌, [], ◌∷◌, ◌++◌, ◌∙◌, if◌then◌else◌, Bool, List, None, Option, Some, ap, arith, false, inl, inr, length, map, not, refl, subst, suc, sym, true, zero}
 use Rattle.std.proofs.lemmas.List.Elements.{Contains-append_cases, Contains-push_cases}
 use Rattle.std.proofs.lemmas.Bool.Decides.{nat_tests}
 use Rattle.std.specs.List.{Contains, filter}
@@ -174,7 +174,7 @@ advance_tells ring me d s first says leads each other =
         each = λ p in_p. subst (λ (w : Durable). IsEntryFor w.log p.gtid p.opid) (sym j) (subst (λ (l : List Entry). IsEntryFor l p.gtid p.opid) (sym f.log) (each p (filter_of (λ (q : Pending). not (is_settled c q)) s.pending p in_p)));
       };
       says = λ x in_x gtid opid term is. elim (Contains-append_cases says (committeds e.term c s.pending) x in_x) [
-          inl old ↦ absurd (other x old gtid opid term is)
+        | inl old ↦ absurd (other x old gtid opid term is)
         | inr new ↦
             let y = map_of (committed e.term) (filter (is_settled c) s.pending) x new in
             let p = y.0 in
@@ -187,7 +187,7 @@ advance_tells ring me d s first says leads each other =
               inside = subst (λ (w : Opid). w.position ≤ c) same.1 le;
               stands = subst (λ (l : List Entry). IsEntryFor l gtid opid) (sym f.log) stands;
             })
-        ];
+      ];
     }
 
 -- ---- elections
@@ -223,15 +223,19 @@ answer_tells ring me d s first says from asked k log other = go (vote_in d.votes
   where
     cast_log : (all_done d (cast_actions ring d s first from asked.term)).log ≡ d.log
     cast_log = ap (λ (w : Durable). w.log) (done_join d first (action.Vote (new_vote ring asked.term from) (floor_of d s) ∷ [])) ∙ log
+
     refuses : Tells d (refused_now me s first says from asked.term)
     refuses = same_tells d s s first (refuse_vote me from asked.term ∷ []) says k log refl refl other
+
     kept : (b : Bool) → Tells d (if b then granted_now me d s first says from asked else refused_now me s first says from asked.term)
     kept true = same_tells d s s first (grant_vote me from asked (all_done d first) ∷ []) says k log refl refl other
     kept false = refuses
+
     fresh : (a b : Bool) → Tells d (if a then (if b then granted_now me d s (cast_actions ring d s first from asked.term) says from asked else refused_now me s first says from asked.term) else refused_now me s first says from asked.term)
     fresh true true = same_tells d s s (cast_actions ring d s first from asked.term) (grant_vote me from asked (all_done d (cast_actions ring d s first from asked.term)) ∷ []) says k cast_log refl refl other
     fresh true false = refuses
     fresh false b = refuses
+
     go : (v : Option Vote) → Tells d (answer_by ring me d s first says from asked v)
     go (Some w) = kept (w.candidate == from)
     go None = fresh (at_least asked.last (last d.log)) (has_room (floor_of d s) d.votes)
@@ -255,9 +259,10 @@ unfolding on_reply
 reply_tells ring me from d s reply k = go s.role refl (nat_lt d.term reply.term) (reply.granted && reply.term == d.term && not (has_granted s.grants from))
   where
     go : (o : Role) → s.role ≡ o → (a b : Bool) → Tells d (elim o [
-        Follower ↦ idle s
+      | Follower ↦ idle s
       | Candidate ↦ (if a then stepped (action.SetTerm reply.term ∷ []) [] (unknowns s) (demoted s) else (if b then lead_or_ask ring me d s [] [] (s.grants ++ record { voter = from; votes = reply.votes } ∷ []) [] else idle s))
-      | Leader ↦ idle s ])
+      | Leader ↦ idle s
+    ])
     go Follower is a b = idle_tells d s k
     go Leader is a b = idle_tells d s k
     go Candidate is true b = empty_tells d (demoted s) (action.SetTerm reply.term ∷ []) [] (unknowns s) refl (unknowns_other s)
@@ -278,8 +283,10 @@ match_tells ring me d s first says sent none other = go (nat_lt (length d.log) s
   where
     last_matched : ℕ
     last_matched = sent.prev.position + length sent.entries
+
     rest : List Entry
     rest = unmatched d.log sent.prev.position sent.entries
+
     go : (a b : Bool) → Tells d (if a then stepped first (reply me sent.leader sent.term false (length d.log) ∷ []) says s
         else (if b then accept ring me d s first says sent else stepped first (reply me sent.leader sent.term false (sent.prev.position - 1) ∷ []) says s))
     go true b = empty_tells d s first (reply me sent.leader sent.term false (length d.log) ∷ []) says none other
@@ -299,6 +306,7 @@ append_tells ring me d s sent k = go (outgrows d sent) (nat_lt sent.term d.term)
     follows false Follower is = match_tells ring me d s [] [] sent (k.none (ap is_leader is)) no_says
     follows false Candidate is = match_tells ring me d (demoted s) [] (unknowns s) sent refl (unknowns_other s)
     follows false Leader is = idle_tells d s k
+
     go : (a b c : Bool) (t : Option Tear)
         → Tells d (if a then idle s else (if b then stepped [] (reply me sent.leader d.term false 0 ∷ []) [] s else (if c then idle s else elim t [ Some t ↦ idle s | None ↦ follow_append ring me d s sent ])))
     go true b c t = idle_tells d s k
@@ -354,10 +362,10 @@ write_tells ring me client d s changes k = go (write_refusal ring me d s changes
         let t : Txn = write_txn ring me d changes in
         let new : Pending = record { client = client; gtid = t.gtid; opid = e.opid } in
         advance_tells ring me d (awaits s client e t.gtid) (action.Prepare (record { opid = e.opid; txn = t }) ∷ action.Append (e ∷ []) ∷ []) [] (ap is_leader (write_leads ring me d s changes is))
-          (λ p in_p. elim (Contains-push_cases s.pending new p in_p) [
-              inl old ↦ more_stands d.log (e ∷ []) p.gtid p.opid (k.each p old)
-            | inr here ↦ subst (λ (w : Pending). IsEntryFor (d.log ++ e ∷ []) w.gtid w.opid) here (record { entry = e; at = get_end d.log e; named = refl; numbered = refl })
-            ]) no_says
+        (λ p in_p. elim (Contains-push_cases s.pending new p in_p) [
+          | inl old ↦ more_stands d.log (e ∷ []) p.gtid p.opid (k.each p old)
+          | inr here ↦ subst (λ (w : Pending). IsEntryFor (d.log ++ e ∷ []) w.gtid w.opid) here (record { entry = e; at = get_end d.log e; named = refl; numbered = refl })
+        ]) no_says
 
 rotate_tells : (ring : Layout) (me client : ℕ) (d : Durable) (s : Soft) → KeepsPending d.log s → Tells d (rotate ring me d s client)
 unfolding rotate
@@ -368,7 +376,7 @@ rotate_tells ring me client d s k = go (rotate_refusal ring me d s) refl
     go None is =
         let e : Entry = own_entry ring me d payload.Rotate in
         advance_tells ring me d s (action.Append (e ∷ []) ∷ []) (record { client = client; what = what.Rotated e.opid } ∷ []) (ap is_leader (rotate_leads ring me d s is))
-          (λ p in_p. more_stands d.log (e ∷ []) p.gtid p.opid (k.each p in_p)) (one_say (record { client = client; what = what.Rotated e.opid }) (λ g o t is. absurd cc))
+        (λ p in_p. more_stands d.log (e ∷ []) p.gtid p.opid (k.each p in_p)) (one_say (record { client = client; what = what.Rotated e.opid }) (λ g o t is. absurd cc))
 
 transfer_tells : (ring : Layout) (me client target : ℕ) (d : Durable) (s : Soft) → KeepsPending d.log s → Tells d (ask_transfer ring me d s client target)
 unfolding ask_transfer
@@ -427,10 +435,10 @@ mock_reply_tells ring me from d s answer k = mock_tells ring me from d s answer 
 result_tells : (me : ℕ) (d : Durable) (s : Soft) (ok : Bool) (target client : ℕ) → KeepsPending d.log s → Tells d (result_heard me d s ok target client)
 result_tells me d s true target client k =
     same_tells d s (record s { transfer = transfer.Handing target client }) [] (hand_over me d s.peers target) (record { client = client; what = what.Moving target } ∷ []) k refl refl refl
-      (one_say (record { client = client; what = what.Moving target }) (λ g o t is. absurd cc))
+    (one_say (record { client = client; what = what.Moving target }) (λ g o t is. absurd cc))
 result_tells me d s false target client k =
     same_tells d s (record s { transfer = transfer.Off }) [] [] (record { client = client; what = what.MoveFailed target } ∷ []) k refl refl refl
-      (one_say (record { client = client; what = what.MoveFailed target }) (λ g o t is. absurd cc))
+    (one_say (record { client = client; what = what.MoveFailed target }) (λ g o t is. absurd cc))
 
 hearing_tells : (me : ℕ) (d : Durable) (s : Soft) (sent : MockResult) (t : Transfer) → KeepsPending d.log s → Tells d (transfer_hears me d s sent t)
 hearing_tells me d s sent transfer.Off k = idle_tells d s k

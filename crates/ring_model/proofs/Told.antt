@@ -1,5 +1,5 @@
 -- What clients were told stands: when a leader said it the entry was sealed in the book of its term, and growth keeps that.
-use Rattle.std.proofs.Common.{◌≡◌, ℕ, ◌+◌, ◌-◌, ◌<◌, ◌≤◌, ◌==◌, ◌⊎◌, ◌&&◌, ◌||◌, [], ◌∷◌, ◌++◌, ◌∙◌, if◌then◌else◌, List, Some, ap, arith, false, inl, inr, length, map, refl, subst, suc, sym, true}
+use Rattle.std.proofs.Common.{◌≡◌, ℕ, ◌≤◌, [], ◌∙◌, List, Some, ap, arith, false, inl, inr, length, map, refl, subst, suc, sym, true}
 use Rattle.std.proofs.lemmas.List.Elements.{Contains-append_cases}
 use Rattle.std.proofs.lemmas.Bool.{cases_eq}
 use Rattle.std.specs.List.{Contains}
@@ -91,23 +91,23 @@ pub told_by_turn : (ring : Layout) (w : WorldState) (h : History) (id : ℕ) (n 
     → HoldsTold ring w h → HoldsTold ring (turned w id n ms says cuts) x.after
 told_by_turn ring w h id n ms says cuts held x waits tells t = record {
   pending = λ j s up. elim (cases_eq j id) [
-      inl same ↦
+    | inl same ↦
         let up' : (with_node w.nodes id n id).soft ≡ Some s = subst (λ (i : ℕ). (with_node w.nodes id n i).soft ≡ Some s) same up in
         let so : n.soft ≡ Some s = sym (ap (λ (m : Node). m.soft) (node_here w.nodes id n)) ∙ up' in
         subst (λ (i : ℕ). KeepsPending (with_node w.nodes id n i).durable.log s) (sym same)
-          (subst (λ (m : Node). KeepsPending m.durable.log s) (sym (node_here w.nodes id n)) (waits s so))
+        (subst (λ (m : Node). KeepsPending m.durable.log s) (sym (node_here w.nodes id n)) (waits s so))
     | inr other ↦
         let was : (w.nodes j).soft ≡ Some s = sym (ap (λ (m : Node). m.soft) (node_other w.nodes id j n other)) ∙ up in
         subst (λ (m : Node). KeepsPending m.durable.log s) (sym (node_other w.nodes id j n other)) (t.pending j s was)
-    ];
+  ];
   told = λ gtid opid term y. elim (Contains-append_cases w.said (map (said_in (suc w.events) id) says) y.0 y.1) [
-      inl old ↦ told_grows ring id h x.after x.grows gtid opid term (t.told gtid opid term (y.0, old, y.2))
+    | inl old ↦ told_grows ring id h x.after x.grows gtid opid term (t.told gtid opid term (y.0, old, y.2))
     | inr new ↦
         let z = map_of (said_in (suc w.events) id) says y.0 new in
         let may = tells z.0 z.1 gtid opid term (ap (λ (q : Said). q.say.what) z.2 ∙ y.2) in
         telling_holds ring (turned w id n ms says cuts) x.after id may.0 gtid opid term x.world (ap (λ (m : Node). m.soft) (node_here w.nodes id n) ∙ may.1)
-          (subst (λ (m : Node). MayTell m.durable may.0 gtid opid term) (sym (node_here w.nodes id n)) may.2)
-    ];
+        (subst (λ (m : Node). MayTell m.durable may.0 gtid opid term) (sym (node_here w.nodes id n)) may.2)
+  ];
 }
 
 -- a step that went to its end
@@ -115,16 +115,16 @@ pub told_by_step : (ring : Layout) (w : WorldState) (h : History) (id : ℕ) (st
     → HoldsTold ring w h → HoldsTold ring (ended w id (w.nodes id).durable st Whole) x.after
 told_by_step ring w h id st held x tells t =
     told_by_turn ring w h id (record { durable = all_done (w.nodes id).durable st.plan.actions; soft = Some st.soft }) st.plan.messages st.plan.says [] held x
-      (λ s so. let is : st.soft ≡ s = cc in subst (λ (o : Soft). KeepsPending (all_done (w.nodes id).durable st.plan.actions).log o) is tells.pending)
-      (λ y in_y gtid opid term is. (st.soft, refl, tells.says y in_y gtid opid term is)) t
+    (λ s so. let is : st.soft ≡ s = cc in subst (λ (o : Soft). KeepsPending (all_done (w.nodes id).durable st.plan.actions).log o) is tells.pending)
+    (λ y in_y gtid opid term is. (st.soft, refl, tells.says y in_y gtid opid term is)) t
 
 -- a node that goes down, or comes up, says nothing, and nothing waits
 pub told_by_silence : (ring : Layout) (w : WorldState) (h : History) (id : ℕ) (n : Node) (cuts : List ℕ) (held : List Election) (x : TurnedTo ring w (turned w id n [] [] cuts) h id held)
     → ((s : Soft) → n.soft ≡ Some s → s.pending ≡ []) → HoldsTold ring w h → HoldsTold ring (turned w id n [] [] cuts) x.after
 told_by_silence ring w h id n cuts held x none t =
     told_by_turn ring w h id n [] [] cuts held x
-      (λ s so. record { none = λ is. none s so; each = λ p in_p. absurd (none_contained p (subst (λ (ps : List Pending). Contains ps p) (none s so) in_p)) })
-      (λ y in_y. absurd (none_contained y in_y)) t
+    (λ s so. record { none = λ is. none s so; each = λ p in_p. absurd (none_contained p (subst (λ (ps : List Pending). Contains ps p) (none s so) in_p)) })
+    (λ y in_y. absurd (none_contained y in_y)) t
 
 pub same_told : (ring : Layout) (w v : WorldState) (h : History) → v.nodes ≡ w.nodes → v.said ≡ w.said → HoldsTold ring w h → HoldsTold ring v h
 same_told ring w v h nodes said t = record {
@@ -150,14 +150,15 @@ told_stands ring w h k t gtid opid term y =
     let x = t.told gtid opid term y in
     let c = k.history.chosen in
     let agrees : Agree opid.position (h.book term) h.chosen = sealed_agree ring h term c.0 opid.position (length h.chosen) (h.book term) h.chosen k.history x.sealed c.1 x.inside in
-    let e = x.stands in
-    (e.entry,
-     subst (λ (l : List Entry). entry_at l opid.position ≡ Some e.entry) k.chosen (sym (entry_agree opid.position (h.book term) h.chosen agrees) ∙ e.at),
-     e.named,
-     e.numbered,
-     λ id s leads le.
-       let d : Durable = (w.nodes id).durable in
-       let l = leader_in ring w h id s k leads in
-       let book : d.log ≡ h.book d.term = (k.nodes id).led_log l.election l.led l.by l.of_term ∙ ap h.book l.of_term in
-       let held : Agree opid.position (h.book term) (h.book d.term) = sealed_in_book ring h term opid.position d.term (h.book term) l.election k.history l.led l.of_term le x.sealed in
-       subst (λ (b : List Entry). entry_at b opid.position ≡ Some e.entry) (sym book) (sym (entry_agree opid.position (h.book term) (h.book d.term) held) ∙ e.at))
+    let e = x.stands in (
+      e.entry,
+      subst (λ (l : List Entry). entry_at l opid.position ≡ Some e.entry) k.chosen (sym (entry_agree opid.position (h.book term) h.chosen agrees) ∙ e.at),
+      e.named,
+      e.numbered,
+      λ id s leads le.
+          let d : Durable = (w.nodes id).durable in
+          let l = leader_in ring w h id s k leads in
+          let book : d.log ≡ h.book d.term = (k.nodes id).led_log l.election l.led l.by l.of_term ∙ ap h.book l.of_term in
+          let held : Agree opid.position (h.book term) (h.book d.term) = sealed_in_book ring h term opid.position d.term (h.book term) l.election k.history l.led l.of_term le x.sealed in
+          subst (λ (b : List Entry). entry_at b opid.position ≡ Some e.entry) (sym book) (sym (entry_agree opid.position (h.book term) (h.book d.term) held) ∙ e.at),
+    )

@@ -1,5 +1,5 @@
 -- One turn of a node, whole or cut, a crash or a restart: where its step owes nothing the invariant holds in the next world.
-use Rattle.std.proofs.Common.{◌≡◌, ℕ, ◌+◌, ◌-◌, ◌<◌, ◌≤◌, ◌==◌, ◌⊎◌, ◌&&◌, ◌||◌, [], ◌∷◌, ◌++◌, ◌∙◌, if◌then◌else◌, Bool, List, None, Some, ap, append_assoc, arith, false, inl, inr, length, refl, subst, suc, sym, take, true}
+use Rattle.std.proofs.Common.{◌≡◌, ℕ, ◌<◌, ◌≤◌, ◌==◌, [], ◌∷◌, ◌++◌, ◌∙◌, Bool, List, None, Some, ap, append_assoc, arith, false, inl, inr, length, refl, subst, suc, sym, take, true}
 use Rattle.std.proofs.lemmas.List.{append-nil, length-take-le}
 use Rattle.std.proofs.lemmas.Bool.{cases_eq}
 use Rattle.std.proofs.lemmas.Bool.Decides.{nat_tests}
