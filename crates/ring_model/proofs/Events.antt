@@ -1,5 +1,5 @@
 -- Each event keeps the invariant: it makes at most one node act, whose step owes nothing, or it moves a cursor alone; and it holds just the elections that the definition finds.
-use Rattle.std.proofs.Common.{◌<◌, ◌≡◌, ℕ, ◌≤◌, [], ◌∷◌, ◌++◌, ◌∙◌, if◌then◌else◌, Bool, List, None, Option, Some, ap, append_assoc, arith, false, length, refl, subst, suc, sym, take, true, zero}
+use Rattle.std.proofs.Common.{◌≡◌, ℕ, ◌<◌, ◌≤◌, [], ◌∷◌, ◌++◌, ◌∙◌, if◌then◌else◌, Bool, List, None, Option, Some, ap, append_assoc, arith, false, length, refl, subst, suc, sym, take, true, zero}
 use Rattle.std.proofs.lemmas.List.{append-nil}
 use Rattle.std.specs.List.{Contains}
 use Rattle.ring_types.specs.declared.entries.Entry.{Entry}
@@ -12,7 +12,7 @@ use Rattle.ring_model.specs.Runs.{Election, Move, acted_elections, acted_tear, a
 use Rattle.ring_model.specs.declared.messages.Input.{Input}
 use Rattle.ring_model.specs.declared.worlds.Line.{Line}
 use Rattle.ring_model.specs.declared.messages.Message.{Message}
-use Rattle.ring_model.specs.Nodes.{Node, empty_durable, fresh_soft, stray_opids}
+use Rattle.ring_model.specs.Nodes.{Node, empty_durable, fresh_soft, recover, stray_opids}
 use Rattle.ring_model.specs.declared.nodes.Soft.{Soft}
 use Rattle.ring_model.specs.Actions.{all_done}
 use Rattle.ring_model.specs.Dispatch.{step}
@@ -26,6 +26,8 @@ use Rattle.ring_model.proofs.Following.{agree_same}
 use Rattle.ring_model.proofs.Paths.{IsLed, SameLog}
 use Rattle.ring_model.proofs.Turns.{IsWorld, TurnedTo, cut_keeps, down_keeps, restart_keeps, whole_keeps}
 use Rattle.ring_model.proofs.Dispatch.{IsGiven, step_row, step_whole}
+use Rattle.ring_model.proofs.Telling.{KeepsPending, step_tells}
+use Rattle.ring_model.proofs.Told.{HoldsTold, same_told, told_by_silence, told_by_step}
 
 -- from a world with a history: the invariant holds after, nothing that was committed or led is lost, and these elections were held
 pub record Carried (ring : Layout) (w v : WorldState) (h : History) (held : List Election) (acted : Option (ℕ × Task)) : Type 0 where
@@ -36,14 +38,15 @@ pub record Carried (ring : Layout) (w v : WorldState) (h : History) (held : List
   pub sealed : (u c : ℕ) (l : List Entry) → IsSealed ring h u c l → IsSealed ring after u c l
   pub elections : after.elections ≡ h.elections ++ held
   pub grew : length w.chosen < length v.chosen → (id : ℕ) (task : Task) → acted ≡ Some (id, task) → IsLed after id (v.nodes id).durable.term
+  pub told : HoldsTold ring w h → HoldsTold ring v after
 
 -- the node that acted
 abbrev actor : Option (ℕ × Task) → ℕ
 actor None = 0
 actor (Some a) = a.0
 
-by_turn : (ring : Layout) (w v : WorldState) (h : History) (id : ℕ) (task : Task) (held : List Election) → TurnedTo ring w v h id held → Carried ring w v h held (Some (id, task))
-by_turn ring w v h id task held x = record {
+by_turn : (ring : Layout) (w v : WorldState) (h : History) (id : ℕ) (task : Task) (held : List Election) (x : TurnedTo ring w v h id held) → (HoldsTold ring w h → HoldsTold ring v x.after) → Carried ring w v h held (Some (id, task))
+by_turn ring w v h id task held x told = record {
   after = x.after;
   world = x.world;
   chosen = x.chosen;
@@ -51,6 +54,7 @@ by_turn ring w v h id task held x = record {
   sealed = λ u c l y. grow_sealed ring id h x.after x.grows u u c l (omega arith) y;
   elections = x.elections;
   grew = λ more other t is. let same : id ≡ other = ap actor is in subst (λ (i : ℕ). IsLed x.after i (v.nodes i).durable.term) same (x.grew more);
+  told = told;
 }
 
 pub carried_join : (ring : Layout) (w v z : WorldState) (h : History) (a b : List Election) (acted next : Option (ℕ × Task)) (x : Carried ring w v h a acted) → Carried ring v z x.after b next → Carried ring w z h (a ++ b) None
@@ -62,6 +66,7 @@ carried_join ring w v z h a b acted next x y = record {
   sealed = λ u c l q. y.sealed u c l (x.sealed u c l q);
   elections = y.elections ∙ (ap (λ (e : List Election). e ++ b) x.elections ∙ append_assoc h.elections a b);
   grew = λ more id task bad. absurd cc;
+  told = λ t. y.told (x.told t);
 }
 
 -- where nodes, messages and the chosen sequence stay
@@ -85,6 +90,7 @@ passed_over ring w h acted k = record {
   sealed = λ u c l x. x;
   elections = sym (append-nil h.elections);
   grew = λ more id task is. absurd (omega arith);
+  told = same_told ring w (passed w) h refl refl;
 }
 
 -- ---- what a task does
@@ -102,13 +108,16 @@ handled_over : (ring : Layout) (w : WorldState) (h : History) (id : ℕ) (i : In
     → Carried ring w (handled ring w id i completion (w.nodes id).durable o) h (held_at ring id (w.nodes id).durable o (Handle i) completion) (Some (id, Handle i))
 handled_over ring w h id i completion None up k given = passed_over ring w h (Some (id, Handle i)) k
 handled_over ring w h id i Whole (Some s) up k given =
-    by_turn ring w (ended w id (w.nodes id).durable (step ring id (w.nodes id).durable s i) Whole) h id (Handle i) (held_by id (w.nodes id).durable s (step ring id (w.nodes id).durable s i) Whole)
-    (whole_keeps ring w h id s (step ring id (w.nodes id).durable s i) k
-    (step_row ring h id (w.nodes id).durable s i k.history (k.nodes id) (k.running id s up) (subst (λ (ms : List Message). IsGiven ms id i) (sym k.messages) given)))
+    let d = (w.nodes id).durable in
+    let st = step ring id d s i in
+    let x = whole_keeps ring w h id s st k (step_row ring h id d s i k.history (k.nodes id) (k.running id s up) (subst (λ (ms : List Message). IsGiven ms id i) (sym k.messages) given)) in
+    by_turn ring w (ended w id d st Whole) h id (Handle i) (held_by id d s st Whole) x (λ t. told_by_step ring w h id st (held_by id d s st Whole) x (step_tells ring id d s i (t.pending id s up)) t)
 handled_over ring w h id i (Cut count) (Some s) up k given =
-    by_turn ring w (ended w id (w.nodes id).durable (step ring id (w.nodes id).durable s i) (Cut count)) h id (Handle i) (held_by id (w.nodes id).durable s (step ring id (w.nodes id).durable s i) (Cut count))
-    (cut_keeps ring w h id count s (step ring id (w.nodes id).durable s i) k
-    (step_row ring h id (w.nodes id).durable s i k.history (k.nodes id) (k.running id s up) (subst (λ (ms : List Message). IsGiven ms id i) (sym k.messages) given)))
+    let d = (w.nodes id).durable in
+    let st = step ring id d s i in
+    let x = cut_keeps ring w h id count s st k (step_row ring h id d s i k.history (k.nodes id) (k.running id s up) (subst (λ (ms : List Message). IsGiven ms id i) (sym k.messages) given)) in
+    by_turn ring w (ended w id d st (Cut count)) h id (Handle i) (held_by id d s st (Cut count)) x
+    (told_by_silence ring w h id (record { durable = all_done d (take count st.plan.actions); soft = None }) (count ∷ []) (held_by id d s st (Cut count)) x (λ o so. absurd cc))
 
 -- a message that a task gives was sent, and to this node
 abbrev pub MayTake : List Message → ℕ → Task → Type 0
@@ -128,15 +137,20 @@ turn_over : (ring : Layout) (w : WorldState) (h : History) (id : ℕ) (task : Ta
     → Carried ring w (turn ring w id task completion) h (held_at ring id (w.nodes id).durable (w.nodes id).soft task completion) (Some (id, task))
 turn_over ring w h id (Handle i) completion k given = handled_over ring w h id i completion (w.nodes id).soft refl k given
 turn_over ring w h id GoDown completion k given =
+    let x = down_keeps ring w h id (w.nodes id).durable [] (record { term = refl; votes = refl; log = refl; applied = refl }) k in
     subst (λ (e : List Election). Carried ring w (turn ring w id GoDown completion) h e (Some (id, GoDown))) (sym (down_holds_none ring id (w.nodes id).durable (w.nodes id).soft completion))
-    (by_turn ring w (turn ring w id GoDown completion) h id GoDown [] (down_keeps ring w h id (w.nodes id).durable [] (record { term = refl; votes = refl; log = refl; applied = refl }) k))
+    (by_turn ring w (turn ring w id GoDown completion) h id GoDown [] x (told_by_silence ring w h id (record { durable = (w.nodes id).durable; soft = None }) [] [] x (λ o so. absurd cc)))
 turn_over ring w h id ComeUp Whole k given =
+    let x = restart_keeps ring w h id k in
     subst (λ (e : List Election). Carried ring w (turn ring w id ComeUp Whole) h e (Some (id, ComeUp))) (sym (up_holds_none ring id (w.nodes id).durable (w.nodes id).soft Whole))
-    (by_turn ring w (turn ring w id ComeUp Whole) h id ComeUp [] (restart_keeps ring w h id k))
+    (by_turn ring w (turn ring w id ComeUp Whole) h id ComeUp [] x
+    (told_by_silence ring w h id (record { durable = recover (w.nodes id).durable; soft = Some (fresh_soft (w.nodes id).durable) }) [] [] x
+    (λ o so. let is : fresh_soft (w.nodes id).durable ≡ o = cc in ap (λ (s : Soft). s.pending) (sym is))))
 turn_over ring w h id ComeUp (Cut count) k given =
+    let e : Durable = all_done (w.nodes id).durable (take count (restart_actions (w.nodes id).durable)) in
+    let x = down_keeps ring w h id e (count ∷ []) (restart_cut (w.nodes id).durable count) k in
     subst (λ (e : List Election). Carried ring w (turn ring w id ComeUp (Cut count)) h e (Some (id, ComeUp))) (sym (up_holds_none ring id (w.nodes id).durable (w.nodes id).soft (Cut count)))
-    (by_turn ring w (turn ring w id ComeUp (Cut count)) h id ComeUp []
-    (down_keeps ring w h id (all_done (w.nodes id).durable (take count (restart_actions (w.nodes id).durable))) (count ∷ []) (restart_cut (w.nodes id).durable count) k))
+    (by_turn ring w (turn ring w id ComeUp (Cut count)) h id ComeUp [] x (told_by_silence ring w h id (record { durable = e; soft = None }) (count ∷ []) [] x (λ o so. absurd cc)))
 
 -- only members act
 member_over : (ring : Layout) (w : WorldState) (h : History) (id : ℕ) (task : Task) (completion : Completion) → IsWorld ring w h → MayTake w.messages id task
@@ -161,7 +175,7 @@ given_over ring w h completion number (Some m) is k = member_over ring w h m.to 
 
 -- a moved cursor changes nothing that is said of a world
 from_moved : (ring : Layout) (w z : WorldState) (h : History) (id number : ℕ) (held : List Election) (acted : Option (ℕ × Task)) → Carried ring (moved w id number) z h held acted → Carried ring w z h held acted
-from_moved ring w z h id number held acted x = record { after = x.after; world = x.world; chosen = x.chosen; led = x.led; sealed = x.sealed; elections = x.elections; grew = x.grew }
+from_moved ring w z h id number held acted x = record { after = x.after; world = x.world; chosen = x.chosen; led = x.led; sealed = x.sealed; elections = x.elections; grew = x.grew; told = λ t. x.told (same_told ring w (moved w id number) h refl refl t) }
 
 acts_same : (ring : Layout) (w : WorldState) (id number : ℕ) (completion : Completion) (o : Option (ℕ × Task)) → acted_elections ring (moved w id number) completion o ≡ acted_elections ring w completion o
 acts_same ring w id number completion None = refl
@@ -281,4 +295,10 @@ first_holds ring = record {
   running = λ id s up. let is : fresh_soft empty_durable ≡ s = cc in
       subst (λ (o : Soft). IsRunning ring first_history id empty_durable o) is (record { sealed = Nothing_yet refl; chosen = omega arith; applied = omega arith; role = tt });
   applied = λ id. omega arith;
+}
+
+pub first_told : (ring : Layout) → HoldsTold ring first_world first_history
+first_told ring = record {
+  pending = λ id s up. let is : fresh_soft empty_durable ≡ s = cc in subst (λ (o : Soft). KeepsPending [] o) is (record { none = λ same. refl; each = λ p in_p. absurd (none_contained p in_p) });
+  told = λ gtid opid term y. absurd (none_contained y.0 y.1);
 }

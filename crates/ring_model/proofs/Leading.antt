@@ -41,7 +41,7 @@ region_at_end : (home : ℕ) (l : List Entry) (x : Entry) → region_at home (l 
 region_at_end home [] x = refl
 region_at_end home (e ∷ l) x = region_at_end home l x
 
-get_end : (l : List Entry) (x : Entry) → slice_get (l ++ x ∷ []) (length l) ≡ Some x
+pub get_end : (l : List Entry) (x : Entry) → slice_get (l ++ x ∷ []) (length l) ≡ Some x
 get_end [] x = refl
 get_end (e ∷ l) x = get_end l x
 

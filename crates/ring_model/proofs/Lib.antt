@@ -24,5 +24,7 @@ pub mod Beat
 pub mod Writes
 pub mod Transfers
 pub mod Dispatch
+pub mod Telling
+pub mod Told
 pub mod Events
 pub mod Runs

@@ -90,12 +90,12 @@ heard_next from p n ok (x ∷ peers) le f y c = go (x.node == from) refl c (λ z
     ]
 
 -- what an answer counts for
-record IsCounted (d : Durable) (s : Soft) (answer : AppendReply) : Type 0 where
-  leads : s.role ≡ Leader
-  of_term : answer.term ≡ d.term
-  inside : answer.position ≤ length d.log
+pub record IsCounted (d : Durable) (s : Soft) (answer : AppendReply) : Type 0 where
+  pub leads : s.role ≡ Leader
+  pub of_term : answer.term ≡ d.term
+  pub inside : answer.position ≤ length d.log
 
-counted : (d : Durable) (s : Soft) (answer : AppendReply) → counts d s answer ≡ true → IsCounted d s answer
+pub counted : (d : Durable) (s : Soft) (answer : AppendReply) → counts d s answer ≡ true → IsCounted d s answer
 counted d s answer is = go s.role refl (answer.term == d.term) refl (nat_le answer.position (length d.log)) refl
   where
     go : (r : Role) → s.role ≡ r → (b : Bool) → (answer.term == d.term) ≡ b → (c : Bool) → nat_le answer.position (length d.log) ≡ c → IsCounted d s answer

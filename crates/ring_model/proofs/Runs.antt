@@ -1,25 +1,21 @@
 -- Every run of every ring is safe, and each leader's region is covered by the later elections: the invariant holds in the first world and each event keeps it.
 use Rattle.std.specs.Prelude.{slice_get}
-use Rattle.std.proofs.Common.{◌<◌, append_assoc, None, ◌≡◌, ℕ, ◌≤◌, [], ◌∷◌, ◌++◌, ◌∙◌, List, ap, arith, false, length, refl, subst, sym, true, Some}
+use Rattle.std.proofs.Common.{◌≡◌, ℕ, ◌<◌, [], ◌∷◌, ◌++◌, ◌∙◌, List, None, Some, ap, append_assoc, arith, length, refl, subst, sym}
 use Rattle.std.proofs.lemmas.List.{append-nil}
 use Rattle.std.specs.List.{Contains}
 use Rattle.ring_types.specs.declared.entries.Entry.{Entry}
 use Rattle.ring_types.specs.Rings.{Layout, region_of}
-use Rattle.ring_model.specs.Safety.{Agree, AppliedPrefix, ChosenByLeader, ChosenOnlyGrows, EveryRunCoversLeaders, EveryRunIsSafeSoFar, LeadersHave, Leads, LogsMatch, NeverTorn, OneLeaderATerm, needed_by}
-use Rattle.ring_model.specs.declared.nodes.Role.TheVariants.{Candidate, Follower, Leader}
+use Rattle.ring_model.specs.Safety.{Agree, AppliedPrefix, ChosenByLeader, ChosenOnlyGrows, EveryRunCoversLeaders, EveryRunIsSafeSoFar, LeadersHave, LogsMatch, NeverTorn, OneLeaderATerm, ToldStands, needed_by}
 use Rattle.ring_model.specs.declared.nodes.Durable.{Durable}
 use Rattle.ring_model.specs.Runs.{Election, Move, acting, elections, elections_from, event_elections, world, world_from}
-use Rattle.ring_model.specs.declared.nodes.Role.{Role}
-use Rattle.ring_model.specs.declared.nodes.Soft.{Soft}
 use Rattle.ring_model.specs.Worlds.{WorldState, first_world, world_step}
-use Rattle.ring_model.specs.Nodes.{is_leader}
 use Rattle.ring_model.proofs.Lists.{contains_listed}
-use Rattle.ring_model.proofs.Invariant.{HasRole, History, IsHistory, IsLeader, IsSealed, Nothing_yet, Sealed_at}
-use Rattle.ring_model.proofs.Growth.{agree_less, agree_trans}
-use Rattle.ring_model.proofs.Cover.{committed_in_book, is_election, leaders_covered}
+use Rattle.ring_model.proofs.Invariant.{History, IsSealed}
+use Rattle.ring_model.proofs.Cover.{is_election, leaders_covered}
 use Rattle.ring_model.proofs.Following.{agree_same, log_match}
 use Rattle.ring_model.proofs.Turns.{IsWorld, in_chosen}
-use Rattle.ring_model.proofs.Events.{Carried, carried_join, event_over, first_history, first_holds, line_whole}
+use Rattle.ring_model.proofs.Told.{leader_in, sealed_in_book, told_stands}
+use Rattle.ring_model.proofs.Events.{Carried, carried_join, event_over, first_history, first_holds, first_told, line_whole}
 
 pub run_over : (ring : Layout) (w : WorldState) (h : History) (run : List Move) → IsWorld ring w h → Carried ring w (world_from ring w run) h (elections_from ring w run) None
 run_over ring w h [] k = record {
@@ -30,6 +26,7 @@ run_over ring w h [] k = record {
   sealed = λ u c l x. x;
   elections = sym (append-nil h.elections);
   grew = λ more id task bad. absurd cc;
+  told = λ t. t;
 }
 run_over ring w h (m ∷ run) k =
     let x = event_over ring w h m k in
@@ -74,18 +71,6 @@ two_worlds ring before after run is =
       sealed = y.sealed;
     }
 
-leader_in : (ring : Layout) (w : WorldState) (h : History) (id : ℕ) (s : Soft) → IsWorld ring w h → Leads w id s → IsLeader h id (w.nodes id).durable s
-leader_in ring w h id s k leads = go s.role refl (k.running id s leads.0).role
-  where
-    go : (r : Role) → s.role ≡ r → HasRole h id (w.nodes id).durable s r → IsLeader h id (w.nodes id).durable s
-    go Follower is x = absurd (let z : false ≡ true = sym (ap is_leader is) ∙ leads.1 in cc)
-    go Candidate is x = absurd (let z : false ≡ true = sym (ap is_leader is) ∙ leads.1 in cc)
-    go Leader is x = x
-
-sealed_in_book : (ring : Layout) (h : History) (u c t : ℕ) (l : List Entry) (e : Election) → IsHistory ring h → Contains h.elections e → e.term ≡ t → u ≤ t → IsSealed ring h u c l → Agree c l (h.book t)
-sealed_in_book ring h u c t l e k in_e is le (Nothing_yet z) = record { left = omega arith; right = omega arith; same = rw z refl }
-sealed_in_book ring h u c t l e k in_e is le (Sealed_at s p a b m x) = agree_trans c l (h.book s) (h.book t) x (agree_less c p (h.book s) (h.book t) b (committed_in_book ring h k s p t e m in_e is (omega arith)))
-
 -- ---- the facts of a safe run
 applied_prefix : (ring : Layout) (run : List Move) → AppliedPrefix (world ring run)
 applied_prefix ring run =
@@ -108,6 +93,10 @@ one_leader_a_term ring run =
       elected = λ id s leads. let l = leader_in ring (world ring run) x.history id s x.world leads in
           (l.election, subst (λ (es : List Election). Contains es l.election) x.elections l.led, l.by, l.of_term);
     }
+
+told_stand : (ring : Layout) (run : List Move) → ToldStands (world ring run)
+unfolding world
+told_stand ring run = let x = run_over ring first_world first_history run (first_holds ring) in told_stands ring (world_from ring first_world run) x.after x.world (x.told (first_told ring))
 
 logs_match : (ring : Layout) (run : List Move) → LogsMatch (world ring run)
 logs_match ring run i j position some in_i in_j same =
@@ -157,6 +146,7 @@ leaders_have ring run before after i j s o is up leads le =
 pub every_run_is_safe_so_far : EveryRunIsSafeSoFar
 every_run_is_safe_so_far ring run lawful = record {
   applied_prefix = applied_prefix ring run;
+  told_stands = told_stand ring run;
   one_leader_a_term = one_leader_a_term ring run;
   logs_match = logs_match ring run;
   chosen_grows = record { grows = chosen_grows ring run; by_leader = chosen_by_leader ring run; never_torn = never_torn_event ring run };

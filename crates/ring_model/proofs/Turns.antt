@@ -3,8 +3,8 @@ use Rattle.std.proofs.Common.{◌≡◌, ℕ, ◌<◌, ◌≤◌, ◌==◌, [], 
 use Rattle.std.proofs.lemmas.List.{append-nil, length-take-le}
 use Rattle.std.proofs.lemmas.Bool.{cases_eq}
 use Rattle.std.proofs.lemmas.Bool.Decides.{nat_tests}
-use Rattle.std.specs.Prelude.{nat_lt}
 use Rattle.std.specs.List.{Contains}
+use Rattle.std.specs.Prelude.{nat_lt}
 use Rattle.ring_types.specs.declared.entries.Entry.{Entry}
 use Rattle.ring_types.specs.Rings.{Layout}
 use Rattle.ring_model.specs.declared.effects.Action.{Action}
@@ -24,7 +24,7 @@ use Rattle.ring_model.proofs.Invariant.{As_leader, By_reply, HasAcked, HasRole, 
 use Rattle.ring_model.proofs.Growth.{Grows, agree_sym, agree_trans, candidate_stays, cast_stays, chosen_stays, grow_log, grow_sealed, leader_stays, others_stay, sent_stays, won_stays}
 use Rattle.ring_model.proofs.Following.{agree_same, agree_take}
 use Rattle.ring_model.proofs.Sending.{MayAnswer, sealed_agree, sent_grows, sent_history, sent_node, with_message}
-use Rattle.ring_model.proofs.Paths.{IsHeld, IsLed, MayReach, Path, SameLog, path_reaches, reach_on, elected, grows_refl, grows_trans, held_cut, held_whole, path_chosen, path_cut, path_elections, path_keeps, path_messages, quiet_cut, same_node}
+use Rattle.ring_model.proofs.Paths.{IsHeld, IsLed, MayReach, Path, SameLog, elected, grows_refl, grows_trans, held_cut, held_whole, path_chosen, path_cut, path_elections, path_keeps, path_messages, path_reaches, quiet_cut, reach_on, same_node}
 
 -- the history is the world's
 pub record IsWorld (ring : Layout) (w : WorldState) (h : History) : Type 0 where
@@ -124,10 +124,10 @@ chosen_only_grows ring h u c l k le x more =
 pub in_chosen : (ring : Layout) (h : History) (u c : ℕ) (l : List Entry) → IsHistory ring h → IsSealed ring h u c l → c ≤ length h.chosen → Agree c l h.chosen
 in_chosen ring h u c l k x le = let t = k.chosen in sealed_agree ring h u t.0 c (length h.chosen) l h.chosen k x t.1 le
 
-node_here : (nodes : ℕ → Node) (id : ℕ) (n : Node) → with_node nodes id n id ≡ n
+pub node_here : (nodes : ℕ → Node) (id : ℕ) (n : Node) → with_node nodes id n id ≡ n
 node_here nodes id n = let same : (id == id) ≡ true = grind (arith, nat_tests) in rw same refl
 
-node_other : (nodes : ℕ → Node) (id j : ℕ) (n : Node) → (j ≡ id → ⊥) → with_node nodes id n j ≡ nodes j
+pub node_other : (nodes : ℕ → Node) (id j : ℕ) (n : Node) → (j ≡ id → ⊥) → with_node nodes id n j ≡ nodes j
 node_other nodes id j n other = let same : (j == id) ≡ false = grind (arith, nat_tests, other) in rw same refl
 
 role_stays : (ring : Layout) (id j : ℕ) (h g : History) (d : Durable) (s : Soft) (r : Role) → Grows id h g → (j ≡ id → ⊥) → HasRole h j d s r → HasRole g j d s r
@@ -256,7 +256,7 @@ turn_keeps ring w h id n ms says cuts held k t =
           role = role_stays ring (suc id) id t.after (with_chosen t.after l) n.durable s s.role co (λ e. omega arith) (t.role s so);
         }
 
-seal_within : (ring : Layout) (h : History) (u c : ℕ) (l : List Entry) → IsSealed ring h u c l → c ≤ length l
+pub seal_within : (ring : Layout) (h : History) (u c : ℕ) (l : List Entry) → IsSealed ring h u c l → c ≤ length l
 seal_within ring h u c l (Nothing_yet z) = omega arith
 seal_within ring h u c l (Sealed_at s p a b m y) = y.left
 

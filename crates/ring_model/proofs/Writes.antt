@@ -61,7 +61,7 @@ pub refused_row : (ring : Layout) (h : History) (id client : ℕ) (c : Cause) (d
 refused_row ring h id client c d s r = record { acted = h; path = Ends; sent = h; sends = Sent_all; role = r.role; sealed = r.sealed; applied = r.applied; reaches = inl r.chosen; holding = stays_holding ring id h d s s refl }
 
 -- only a leader is not refused
-write_leads : (ring : Layout) (id : ℕ) (d : Durable) (s : Soft) (changes : List Change) → write_refusal ring id d s changes ≡ None → s.role ≡ Leader
+pub write_leads : (ring : Layout) (id : ℕ) (d : Durable) (s : Soft) (changes : List Change) → write_refusal ring id d s changes ≡ None → s.role ≡ Leader
 unfolding write_refusal
 write_leads ring id d s changes is = go s.role refl
   where
@@ -70,7 +70,7 @@ write_leads ring id d s changes is = go s.role refl
     go Candidate x = absurd (let u = rw x at is in cc)
     go Leader x = x
 
-rotate_leads : (ring : Layout) (id : ℕ) (d : Durable) (s : Soft) → rotate_refusal ring id d s ≡ None → s.role ≡ Leader
+pub rotate_leads : (ring : Layout) (id : ℕ) (d : Durable) (s : Soft) → rotate_refusal ring id d s ≡ None → s.role ≡ Leader
 unfolding rotate_refusal
 rotate_leads ring id d s is = go s.role refl
   where

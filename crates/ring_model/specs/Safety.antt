@@ -106,6 +106,7 @@ LeadersHave ring run = (before after : List Move) (i j : ℕ) (s o : Soft) → r
 -- the clauses of Safe that need no rows, and what committed entries are to later leaders
 pub record SafeSoFar (ring : Layout) (run : List Move) : Type 0 where
   pub applied_prefix : AppliedPrefix (world ring run)
+  pub told_stands : ToldStands (world ring run)
   pub one_leader_a_term : OneLeaderATerm (world ring run) (elections ring run)
   pub logs_match : LogsMatch (world ring run)
   pub chosen_grows : ChosenGrows ring run

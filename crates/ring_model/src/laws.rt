@@ -19,8 +19,9 @@ pub fn law_need()
 {}
 
 /// In the world after any run of any ring: what is applied or committed is a beginning of the chosen
-/// sequence, which only grows, and only by a node that was elected in its term; no term is led twice;
-/// logs with an entry of one opid are equal up to it; no event is torn; and each later leader has what
+/// sequence; what a client was told stands in it, and in each leader's log from that term on; no term
+/// is led twice; logs with an entry of one opid are equal up to it; the chosen sequence only grows,
+/// and only by a node that was elected in its term; no event is torn; and each later leader has what
 /// was committed.
 pub fn law_safe()
     ensures { EveryRunIsSafeSoFar }
