@@ -4,16 +4,8 @@ use Rattle.std.specs.List.{list_any}
 use Rattle.ring_types.specs.declared.values.Gtid.{Gtid}
 use Rattle.ring_types.specs.declared.entries.Entry.{Entry}
 use Rattle.ring_types.specs.declared.entries.Payload.TheVariants as payload
-
--- both ends are in it
-pub record Interval : Type 0 where
-  pub first : ℕ
-  pub last : ℕ
-
--- the intervals of one server, ascending, none touching the next
-pub record ServerSet : Type 0 where
-  pub server : ℕ
-  pub intervals : List Interval
+use Rattle.ring_types.specs.declared.gtid_sets.Interval.{Interval}
+use Rattle.ring_types.specs.declared.gtid_sets.ServerSet.{ServerSet}
 
 abbrev pub gtid_of : Entry → Option Gtid
 gtid_of e = elim e.payload [ payload.NoOp ↦ None | payload.Rotate ↦ None | payload.Txn t ↦ Some t.gtid ]
@@ -68,4 +60,4 @@ greatest_number server log = fold (λ (m : ℕ) (n : ℕ). max m n) 0 (numbers_o
 
 -- the next number of a server; there is none after 2^63 - 2
 abbrev pub next_number : ℕ → List Entry → Option ℕ
-next_number server log = if greatest_number server log == 2 ^ 63 - 2 then None else Some (greatest_number server log + 1)
+next_number server log = if nat_lt (greatest_number server log) (2 ^ 63 - 2) then Some (greatest_number server log + 1) else None

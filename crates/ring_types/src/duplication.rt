@@ -28,3 +28,9 @@ impl Duplicate for u64 {
         Ok(*self)
     }
 }
+
+impl Duplicate for u128 {
+    fn copy(&self, _alloc: Global) -> Result<u128, Memory> {
+        Ok(*self)
+    }
+}

@@ -8,6 +8,7 @@
 
 mod duplication;
 mod entries;
+mod gtid_sets;
 mod lists;
 mod members;
 mod rings;
@@ -19,6 +20,7 @@ pub use duplication::{Duplicate, Memory};
 pub use entries::{
     Anchor, Conflict, Entry, Grant, Keep, NodeId, Opid, Pair, Payload, Place, RegionId, Vote,
 };
+pub use gtid_sets::{Interval, ServerSet};
 pub use lists::List;
 pub use members::{Address, Kind, Member, MemberPart, RingParts};
 pub use rings::{BuildError, Ring};

@@ -1,0 +1,26 @@
+//! Plain bodies of the definitions about logs, rows, group sizes and GTID sets, as functions over
+//! the types of a ring.
+//!
+//! They compute each definition case by case and copy what they return. They are the first body of
+//! the layers above, and the yardstick for faster ones.
+#![tactic(auto)]
+
+mod fitting;
+mod keyed_rows;
+mod lists;
+mod logs;
+mod sizes;
+mod table_rows;
+
+pub use fitting::{
+    change_fits, changes_fit, comes_before, fits_table, has_lesser_key, has_null_key, has_this_key,
+    is_null, is_number, key_fits, payload_fits, payloads_fit, place_in, row_fits, same_value,
+    table_name, table_of, value_fits, values_fit,
+};
+pub use keyed_rows::{has_key, key_refusal, placed, row_of, rows_after, with_row, without_key};
+pub use lists::{first_items, items_from, joined};
+pub use logs::{at_least, entry_at, has_opid, last, region_at, rotates, same_opid, term_at};
+pub use sizes::{change_size, changes_size, group_size, rows_event_size, table_map_size};
+pub use table_rows::{
+    Tables, all_changed, applied, changed, check, empty_tables, is_valid, refusal_of, rows,
+};
