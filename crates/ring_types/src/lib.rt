@@ -11,6 +11,8 @@ mod entries;
 mod gtid_sets;
 mod lists;
 mod members;
+mod places;
+mod refusals;
 mod rings;
 mod schemas;
 mod texts;

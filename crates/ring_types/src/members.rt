@@ -53,7 +53,7 @@ pub struct RingParts {
     pub schema: Schema,
 }
 
-fn copy_address(alloc: Global, address: &Option<Text>) -> Result<Option<Text>, Memory>
+pub(crate) fn copy_address(alloc: Global, address: &Option<Text>) -> Result<Option<Text>, Memory>
     ensures { IfOk result (λ it. it ≡ address.now) }
 {
     match address {

@@ -1,0 +1,12 @@
+-- the rest names one twice exactly if all do
+use Rattle.std.proofs.Common.{◌≡◌, length, map}
+use Rattle.ring_types.specs.Names.{has_text_twice}
+use Rattle.ring_types.specs.declared.schemas.Column.{Column}
+use Rattle.ring_types.proofs.refusals.column_twice.Given as goal
+
+abbrev pub invariant-loop-rest : goal.invariant-loop-rest
+invariant-loop-rest l =
+    has_text_twice (map (λ (m : Column). m.name) l.rest) ≡ has_text_twice (map (λ (m : Column). m.name) l.columns)
+
+abbrev pub decreases-loop-rest : goal.decreases-loop-rest
+decreases-loop-rest l = length l.rest
