@@ -12,9 +12,12 @@ mod gtid_sets;
 mod lists;
 mod members;
 mod places;
+mod ranges;
 mod refusals;
 mod rings;
 mod schemas;
+#[cfg(test)]
+mod tests;
 mod texts;
 mod values;
 
