@@ -6,17 +6,21 @@
 #![tactic(auto)]
 
 mod fitting;
+mod gtid_numbers;
 mod keyed_rows;
 mod lists;
 mod logs;
 mod sizes;
 mod table_rows;
+#[cfg(test)]
+mod tests;
 
 pub use fitting::{
     change_fits, changes_fit, comes_before, fits_table, has_lesser_key, has_null_key, has_this_key,
     is_null, is_number, key_fits, payload_fits, payloads_fit, place_in, row_fits, same_value,
     table_name, table_of, value_fits, values_fit,
 };
+pub use gtid_numbers::{greatest_number, gtids, has, next_number};
 pub use keyed_rows::{has_key, key_refusal, placed, row_of, rows_after, with_row, without_key};
 pub use lists::{first_items, items_from, joined};
 pub use logs::{at_least, entry_at, has_opid, last, region_at, rotates, same_opid, term_at};

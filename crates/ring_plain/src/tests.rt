@@ -1,0 +1,351 @@
+use crate::{
+    Tables, at_least, check, first_items, greatest_number, group_size, gtids, has, last,
+    next_number, region_at, rotates, rows, term_at,
+};
+use ring_types::{
+    Change, Column, Entry, Gtid, Interval, List, Memory, Opid, Payload, RegionId, RowRefusal,
+    Schema, ServerSet, Shape, Table, Text, Txn, Value,
+};
+use std::alloc::Global;
+use std::test::Fail;
+
+fn text(alloc: Global, of: &str) -> Result<Text, Memory> {
+    Ok(Text::from_string(String::from_str(alloc, of)?))
+}
+
+/// A text of so many bytes.
+fn long_text(alloc: Global, bytes: usize) -> Result<Text, Memory> {
+    let mut long = String::new(alloc);
+    for _ in 0..bytes {
+        long.push_str("x")?;
+    }
+    Ok(Text::from_string(long))
+}
+
+fn one<T: Drop>(alloc: Global, item: T) -> Result<List<T>, Memory> {
+    let mut list = List::new(alloc);
+    list.push(item)?;
+    Ok(list)
+}
+
+fn pair<T: Drop>(alloc: Global, first: T, second: T) -> Result<List<T>, Memory> {
+    let mut both = one(alloc, first)?;
+    both.push(second)?;
+    Ok(both)
+}
+
+fn column(alloc: Global, name: &str, shape: Shape) -> Result<Column, Memory> {
+    Ok(Column {
+        name: text(alloc, name)?,
+        shape,
+    })
+}
+
+/// A table with the columns `id int` and one of texts.
+fn table(alloc: Global, name: &str, of_texts: &str, limit: u16) -> Result<Table, Memory> {
+    let id = column(alloc, "id", Shape::Int)?;
+    let of_texts = column(alloc, of_texts, Shape::Text { limit })?;
+    Ok(Table {
+        name: text(alloc, name)?,
+        columns: pair(alloc, id, of_texts)?,
+    })
+}
+
+/// The tables `t` and `b` of the database `app`.
+fn schema(alloc: Global) -> Result<Schema, Memory> {
+    let names = table(alloc, "t", "name", 20)?;
+    let bodies = table(alloc, "b", "body", 16000)?;
+    Ok(Schema {
+        database: text(alloc, "app")?,
+        tables: pair(alloc, names, bodies)?,
+    })
+}
+
+/// A row with a text of so many bytes, or Null.
+fn row(alloc: Global, id: i64, bytes: Option<usize>) -> Result<List<Value>, Memory> {
+    let value = match bytes {
+        Some(bytes) => Value::Text(long_text(alloc, bytes)?),
+        None => Value::Null,
+    };
+    pair(alloc, Value::Int(id), value)
+}
+
+fn insert(alloc: Global, table: &str, id: i64, bytes: usize) -> Result<Change, Memory> {
+    Ok(Change::Insert {
+        table: text(alloc, table)?,
+        row: row(alloc, id, Some(bytes))?,
+    })
+}
+
+fn insert_null_key(alloc: Global) -> Result<Change, Memory> {
+    Ok(Change::Insert {
+        table: text(alloc, "t")?,
+        row: pair(alloc, Value::Null, Value::Null)?,
+    })
+}
+
+fn update_to_null(alloc: Global, id: i64) -> Result<Change, Memory> {
+    Ok(Change::Update {
+        table: text(alloc, "t")?,
+        row: row(alloc, id, None)?,
+    })
+}
+
+fn delete(alloc: Global, id: i64) -> Result<Change, Memory> {
+    Ok(Change::Delete {
+        table: text(alloc, "t")?,
+        key: Value::Int(id),
+    })
+}
+
+fn delete_of_text(alloc: Global) -> Result<Change, Memory> {
+    Ok(Change::Delete {
+        table: text(alloc, "t")?,
+        key: Value::Text(text(alloc, "one")?),
+    })
+}
+
+fn transaction(server: u128, number: u64, changes: List<Change>) -> Payload {
+    Payload::Txn(Txn {
+        gtid: Gtid { server, number },
+        changes,
+    })
+}
+
+/// Puts an entry of the term at the end of the log, in region 2.
+fn put(log: &mut List<Entry>, term: u64, payload: Payload) -> Result<(), Memory> {
+    let position = (log.len() as u64).saturating_add(1);
+    log.push(Entry {
+        opid: Opid { term, position },
+        region: RegionId(2),
+        payload,
+    })
+}
+
+/// Puts a transaction of two inserts into `t`.
+fn put_inserts(
+    alloc: Global,
+    log: &mut List<Entry>,
+    first: (i64, usize),
+    second: (i64, usize),
+) -> Result<(), Memory> {
+    let one = insert(alloc, "t", first.0, first.1)?;
+    let other = insert(alloc, "t", second.0, second.1)?;
+    put(log, 1, transaction(7, 1, pair(alloc, one, other)?))
+}
+
+/// Two inserts in falling key order; two inserts of which the second is refused; a rotate; an
+/// update to Null and a delete.
+fn four_entries(alloc: Global) -> Result<List<Entry>, Memory> {
+    let mut log = List::new(alloc);
+    put_inserts(alloc, &mut log, (2, 5), (1, 4))?;
+    put_inserts(alloc, &mut log, (3, 6), (2, 7))?;
+    put(&mut log, 1, Payload::Rotate)?;
+    let changed = update_to_null(alloc, 1)?;
+    let changes = pair(alloc, changed, delete(alloc, 2)?)?;
+    put(&mut log, 3, transaction(7, 3, changes))?;
+    Ok(log)
+}
+
+/// The rows of `t` after the first entry, and no row of `b`.
+fn early_tables(alloc: Global) -> Result<Tables, Memory> {
+    let first = row(alloc, 1, Some(4))?;
+    let both = pair(alloc, first, row(alloc, 2, Some(5))?)?;
+    pair(alloc, both, List::new(alloc))
+}
+
+/// The rows of `t` after the last entry, and no row of `b`.
+fn late_tables(alloc: Global) -> Result<Tables, Memory> {
+    let alone = one(alloc, row(alloc, 1, None)?)?;
+    pair(alloc, alone, List::new(alloc))
+}
+
+#[test]
+fn rows_of_a_log(rt: HostRuntime) -> Result<(), Fail> {
+    let schema = schema(rt.alloc())?;
+    let log = four_entries(rt.alloc())?;
+    let early = early_tables(rt.alloc())?;
+    for count in [1, 2, 3] {
+        let front = first_items(rt.alloc(), log.as_slice(), count)?;
+        let tables = rows(rt.alloc(), &schema, front.as_slice())?;
+        assert_eq!(rt; tables, early, "after {count} entries");
+    }
+    let tables = rows(rt.alloc(), &schema, log.as_slice())?;
+    assert_eq!(rt; tables, late_tables(rt.alloc())?);
+    Ok(())
+}
+
+/// A change by the number of its case.
+fn change_of(alloc: Global, case: u8) -> Result<Change, Memory> {
+    match case {
+        0 => insert(alloc, "none", 1, 3),
+        1 => insert(alloc, "t", 1, 21),
+        2 => insert_null_key(alloc),
+        3 => delete_of_text(alloc),
+        4 => insert(alloc, "t", 1, 3),
+        5 => update_to_null(alloc, 3),
+        6 => delete(alloc, 3),
+        7 => update_to_null(alloc, 1),
+        8 => delete(alloc, 1),
+        _ => insert(alloc, "t", 3, 20),
+    }
+}
+
+#[test]
+fn first_refusals(rt: HostRuntime) -> Result<(), Fail> {
+    let schema = schema(rt.alloc())?;
+    let tables = early_tables(rt.alloc())?;
+    for (case, other, refusal) in [
+        (0, 8, Some(RowRefusal::NoTable)),
+        (1, 0, Some(RowRefusal::BadRow)),
+        (2, 0, Some(RowRefusal::BadRow)),
+        (3, 0, Some(RowRefusal::BadRow)),
+        (4, 0, Some(RowRefusal::KeyExists)),
+        (5, 0, Some(RowRefusal::NoKey)),
+        (6, 0, Some(RowRefusal::NoKey)),
+        (7, 0, Some(RowRefusal::NoTable)),
+        (8, 8, Some(RowRefusal::NoKey)),
+        (8, 4, None),
+        (9, 7, None),
+    ] {
+        let first = change_of(rt.alloc(), case)?;
+        let changes = pair(rt.alloc(), first, change_of(rt.alloc(), other)?)?;
+        let answer = check(rt.alloc(), &schema, tables.as_slice(), changes.as_slice())?;
+        assert_eq!(rt; answer, refusal, "cases {case} and {other}");
+    }
+    Ok(())
+}
+
+/// 62 inserts of bodies of 16000 bytes and one of so many.
+fn bodies(alloc: Global, rest: usize) -> Result<List<Change>, Memory> {
+    let mut changes = List::new(alloc);
+    for id in 0..62 {
+        changes.push(insert(alloc, "b", id, 16000)?)?;
+    }
+    changes.push(insert(alloc, "b", 62, rest)?)?;
+    Ok(changes)
+}
+
+/// Changes by the number of their case.
+fn changes_of(alloc: Global, case: u8) -> Result<List<Change>, Memory> {
+    match case {
+        0 => Ok(List::new(alloc)),
+        1 => one(alloc, insert(alloc, "t", 1, 0)?),
+        2 => one(alloc, insert(alloc, "t", 1, 5)?),
+        3 => one(alloc, update_to_null(alloc, 1)?),
+        4 => one(alloc, delete(alloc, 1)?),
+        5 => bodies(alloc, 2024),
+        _ => bodies(alloc, 2025),
+    }
+}
+
+#[test]
+fn group_sizes(rt: HostRuntime) -> Result<(), Fail> {
+    let schema = schema(rt.alloc())?;
+    assert_eq!(rt; group_size(&schema, &Payload::NoOp), 42);
+    assert_eq!(rt; group_size(&schema, &Payload::Rotate), 86);
+    for (case, bytes) in [
+        (0, 180),
+        (1, 180 + 46 + 45),
+        (2, 180 + 46 + 45 + 5),
+        (3, 180 + 46 + 54),
+        (4, 180 + 46 + 44),
+        (5, 1000000),
+        (6, 1000001),
+    ] {
+        let payload = transaction(7, 1, changes_of(rt.alloc(), case)?);
+        assert_eq!(rt; group_size(&schema, &payload), bytes, "case {case}");
+    }
+    Ok(())
+}
+
+/// Transactions without changes of two servers, each followed by a no-op.
+fn numbered(alloc: Global) -> Result<List<Entry>, Memory> {
+    let mut log = List::new(alloc);
+    for (server, number) in [(9, 4), (7, 3), (7, 1), (7, 5), (7, 2)] {
+        put(&mut log, 1, transaction(server, number, List::new(alloc)))?;
+        put(&mut log, 1, Payload::NoOp)?;
+    }
+    Ok(log)
+}
+
+/// 1-3 and 5 of server 7, and 4 of server 9.
+fn numbered_sets(alloc: Global) -> Result<List<ServerSet>, Memory> {
+    let front = Interval { first: 1, last: 3 };
+    let of_seven = pair(alloc, front, Interval { first: 5, last: 5 })?;
+    let of_nine = one(alloc, Interval { first: 4, last: 4 })?;
+    let seven = ServerSet {
+        server: 7,
+        intervals: of_seven,
+    };
+    let nine = ServerSet {
+        server: 9,
+        intervals: of_nine,
+    };
+    pair(alloc, seven, nine)
+}
+
+#[test]
+fn gtids_of_a_log(rt: HostRuntime) -> Result<(), Fail> {
+    let log = numbered(rt.alloc())?;
+    let sets = gtids(rt.alloc(), log.as_slice())?;
+    assert_eq!(rt; sets, numbered_sets(rt.alloc())?);
+    for (server, number, there) in [(7, 2, true), (7, 4, false), (9, 4, true), (9, 5, false)] {
+        assert_eq!(rt; has(sets.as_slice(), server, number), there);
+    }
+    Ok(())
+}
+
+#[test]
+fn next_numbers(rt: HostRuntime) -> Result<(), Fail> {
+    let mut log = numbered(rt.alloc())?;
+    put(
+        &mut log,
+        1,
+        transaction(5, 9223372036854775806, List::new(rt.alloc())),
+    )?;
+    for (server, greatest, next) in [
+        (7, 5, Some(6)),
+        (8, 0, Some(1)),
+        (9, 4, Some(5)),
+        (5, 9223372036854775806, None),
+    ] {
+        assert_eq!(rt; greatest_number(server, log.as_slice()), greatest);
+        assert_eq!(rt; next_number(server, log.as_slice()), next);
+    }
+    Ok(())
+}
+
+#[test]
+fn positions(rt: HostRuntime) -> Result<(), Fail> {
+    let log = four_entries(rt.alloc())?;
+    let log = log.as_slice();
+    for (position, term, region) in [(0, 0, 1), (1, 1, 2), (3, 1, 2), (4, 3, 2), (5, 0, 1)] {
+        assert_eq!(rt; term_at(log, position), term);
+        assert_eq!(rt; region_at(RegionId(1), log, position), RegionId(region));
+    }
+    let end = Opid {
+        term: 3,
+        position: 4,
+    };
+    assert_eq!(rt; last(log), end);
+    assert_eq!(rt; rotates(log), 1);
+    Ok(())
+}
+
+#[test]
+fn up_to_date(rt: HostRuntime) {
+    let end = Opid {
+        term: 3,
+        position: 4,
+    };
+    for (term, position, at_least_as_new) in [
+        (3, 4, true),
+        (3, 5, true),
+        (4, 1, true),
+        (3, 3, false),
+        (2, 9, false),
+    ] {
+        assert_eq!(rt; at_least(Opid { term, position }, end), at_least_as_new);
+    }
+}
