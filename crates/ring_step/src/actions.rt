@@ -1,4 +1,4 @@
-ghost use Rattle.std.specs.Prelude.{◌≡◌, ◌++◌, ◌∷◌, [], IfOk, filter, not, nat_le, bytes_eq};
+ghost use Rattle.std.specs.Prelude.{◌≡◌, ◌++◌, ◌∷◌, [], IfOk, length, filter, not, nat_le, bytes_eq};
 ghost use Rattle.std.specs.List.{list_any};
 ghost use Rattle.std.specs.Option.{option_copied};
 ghost use Rattle.ring_types.specs.declared.entries.Pair.{Pair};
@@ -29,18 +29,33 @@ pub fn votes_above(alloc: Global, floor: u64, votes: &[Vote]) -> Result<List<Vot
     Ok(above)
 }
 
+fn find_vote(votes: &[Vote], term: u64) -> Option<&Vote>
+    ensures { option_copied result ≡ spec.vote_in votes.now term }
+{
+    votes.iter().find(|vote| vote.term == term)
+}
+
 /// The vote kept for a term.
 pub fn vote_in(votes: &[Vote], term: u64) -> Option<Vote>
     ensures { result ≡ spec.vote_in votes.now term }
 {
-    votes.iter().find(|vote| vote.term == term).copied()
+    match find_vote(votes, term) {
+        Some(vote) => Some(*vote),
+        None => None,
+    }
+}
+
+fn count_above(floor: u64, votes: &[Vote]) -> usize
+    ensures { result ≡ length (spec.votes_above floor votes.now) }
+{
+    votes.iter().filter(|vote| floor < vote.term).count()
 }
 
 /// Whether one more vote has room once those of terms up to the floor are dropped.
 pub fn has_room(floor: u64, votes: &[Vote]) -> bool
     ensures { result ≡ spec.has_room floor votes.now }
 {
-    votes.iter().filter(|vote| floor < vote.term).count() < VOTE_LIMIT
+    count_above(floor, votes) < VOTE_LIMIT
 }
 
 /// The pair of an entry that is a transaction.
@@ -57,15 +72,30 @@ pub fn pair_of(alloc: Global, entry: &Entry) -> Result<Option<Pair>, Memory>
     }
 }
 
+fn with_pair_of(alloc: Global, front: List<Pair>, entry: &Entry) -> Result<List<Pair>, Memory>
+    ensures { IfOk result (λ it. it ≡ front ++ spec.pairs_in (entry.now ∷ [])) }
+{
+    match pair_of(alloc, entry)? {
+        Some(pair) => with_pair(front, pair),
+        None => Ok(front),
+    }
+}
+
+fn with_pair(front: List<Pair>, pair: Pair) -> Result<List<Pair>, Memory>
+    ensures { IfOk result (λ it. it ≡ front ++ pair ∷ []) }
+{
+    let mut pairs = front;
+    pairs.push(pair)?;
+    Ok(pairs)
+}
+
 /// The pairs of a list's transactions, in order.
 pub fn pairs_in(alloc: Global, entries: &[Entry]) -> Result<List<Pair>, Memory>
     ensures { IfOk result (λ it. it ≡ spec.pairs_in entries.now) }
 {
     let mut pairs = List::new(alloc);
     for entry in entries {
-        if let Some(pair) = pair_of(alloc, entry)? {
-            pairs.push(pair)?;
-        }
+        pairs = with_pair_of(alloc, pairs, entry)?;
     }
     Ok(pairs)
 }
@@ -202,14 +232,6 @@ fn voted(alloc: Global, vote: Vote, floor: u64, votes: &[Vote]) -> Result<List<V
     Ok(kept)
 }
 
-fn with_pair(alloc: Global, pairs: List<Pair>, pair: &Pair) -> Result<List<Pair>, Memory>
-    ensures { IfOk result (λ it. it ≡ pairs ++ pair.now ∷ []) }
-{
-    let mut pairs = pairs;
-    pairs.push(pair.copy(alloc)?)?;
-    Ok(pairs)
-}
-
 fn committed(alloc: Global, durable: Durable, position: u64) -> Result<Durable, Memory>
     ensures { IfOk result (λ it. it ≡ spec.done durable (action.Commit position)) }
 {
@@ -247,7 +269,7 @@ pub fn done(alloc: Global, durable: Durable, action: &Action) -> Result<Durable,
             ..durable
         }),
         Action::Prepare(pair) => Ok(Durable {
-            prepared: with_pair(alloc, durable.prepared.copy(alloc)?, pair)?,
+            prepared: with_pair(durable.prepared.copy(alloc)?, pair.copy(alloc)?)?,
             ..durable
         }),
         Action::Commit(position) => committed(alloc, durable, *position),

@@ -2,6 +2,7 @@ ghost use Rattle.std.specs.Prelude.{◌≡◌, ◌-◌, ◌^◌, ◌<◌, ◌++�
 ghost use Rattle.ring_model.specs.Actions.{all_done};
 ghost use Rattle.ring_model.specs.declared.nodes.Role.TheVariants.{Candidate};
 ghost use Rattle.ring_model.specs.Steps as steps;
+ghost use Rattle.ring_model.specs.declared.messages.Body.TheVariants as body;
 ghost use Rattle.ring_model.specs.Elections as spec;
 
 use crate::actions::{all_done, has_room};
@@ -174,6 +175,16 @@ pub fn new_vote(ring: &Ring, term: u64, candidate: NodeId) -> Vote
     }
 }
 
+fn request(me: NodeId, to: NodeId, term: u64, asked: Opid) -> Message
+    ensures { result ≡ steps.message me to (body.RequestVote (record { term = term; last = asked })) }
+{
+    Message {
+        from: me.0,
+        to: to.0,
+        body: Body::RequestVote(RequestVote { term, last: asked }),
+    }
+}
+
 /// The request to every other voter, in ring order.
 pub fn requests(
     alloc: Global,
@@ -187,11 +198,7 @@ pub fn requests(
     let mut asks = List::new(alloc);
     for member in members {
         if member.id != me && is_voter(member.kind) {
-            asks.push(Message {
-                from: me.0,
-                to: member.id.0,
-                body: Body::RequestVote(RequestVote { term, last: asked }),
-            })?;
+            asks.push(request(me, member.id, term, asked))?;
         }
     }
     Ok(asks)

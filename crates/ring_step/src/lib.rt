@@ -12,6 +12,9 @@ mod needs;
 mod places;
 mod quorums;
 mod steps;
+#[cfg(test)]
+mod tests;
+mod writes;
 
 pub use actions::{
     all_done, done, has_room, holder_of, is_held, is_prepared, is_txn_at, pair_of, pairs_in,
@@ -27,3 +30,4 @@ pub use steps::{
     advance, commit_count, committeds, demoted, engine_actions, follow_actions, holders, idle,
     is_leader, is_ready, may_commit, own_entry, stepped, unknowns, waiting, with_append,
 };
+pub use writes::{lock_of, rotate, write};

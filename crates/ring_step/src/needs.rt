@@ -1,5 +1,5 @@
 ghost use Rattle.std.specs.Prelude.{◌≡◌, ◌++◌, IfOk, filter};
-ghost use Rattle.std.specs.List.{list_all};
+ghost use Rattle.std.specs.List.{list_all, list_any};
 ghost use Rattle.ring_model.specs.Needs as spec;
 ghost use Rattle.ring_model.specs.Quorums as quorums;
 
@@ -160,7 +160,7 @@ pub fn closure(
         return Ok(regions);
     }
     let told = heard(alloc, ring, regions.as_slice(), pool.as_slice())?;
-    if told.is_empty() {
+    if told.len() == 0 {
         return Ok(regions);
     }
     let rest = unheard(alloc, ring, regions.as_slice(), pool.as_slice())?;

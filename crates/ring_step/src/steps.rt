@@ -149,7 +149,8 @@ pub fn commit_count(
 {
     let mut position = log.len() as u64;
     while soft.commit < position {
-        if may_commit(alloc, ring, me, term, log, soft.peers.as_slice(), position)? {
+        let passes = may_commit(alloc, ring, me, term, log, soft.peers.as_slice(), position)?;
+        if passes {
             return Ok(position);
         }
         position -= 1;
