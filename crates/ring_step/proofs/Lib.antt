@@ -1,0 +1,4 @@
+pub mod Greatest
+pub mod Following
+pub mod Closing
+pub mod Pairs
