@@ -5,15 +5,13 @@ ghost use Rattle.schedule_text.specs.Cutting.{words_after, parts_after};
 ghost use Rattle.schedule_text.specs.Reading.{Gives, provided};
 ghost use Rattle.schedule_text.specs.Changes.{writing, change_at, named_of, change_of, next_words, changes_of};
 
-use std::alloc::Global;
-
-use ring_model::CutAt;
-use ring_types::{Change, List, Text, Value};
-
 use crate::cutting::{is, next_part, no_more_words, provided, text, word};
 use crate::faults::LineError;
 use crate::rows::{row, value};
 use crate::suffixes::cut_at;
+use ring_model::CutAt;
+use ring_types::{Change, List, Text, Value};
+use std::alloc::Global;
 
 fn is_name_byte(byte: u8) -> bool
     ensures { result ≡ is_name_byte byte }
@@ -61,7 +59,12 @@ fn writing(verb: &[u8], table: Text, row: Vec<Value>) -> Result<Change, LineErro
 }
 
 #[tactic(auto, unfolding(crate::specs::Changes::change_at))]
-fn change_at<'a>(alloc: Global, verb: &[u8], table: Text, rest: &'a [u8]) -> Result<(Change, &'a [u8]), LineError>
+fn change_at<'a>(
+    alloc: Global,
+    verb: &[u8],
+    table: Text,
+    rest: &'a [u8],
+) -> Result<(Change, &'a [u8]), LineError>
     ensures { Gives (λ x. (x.0, words_after x.1.now)) result (change_at verb.now table (words_after rest.now)) }
 {
     if is(verb, b"delete") {
@@ -95,7 +98,11 @@ fn spaced(part: &[u8]) -> Result<&[u8], LineError>
 }
 
 /// The changes in these words and in each further part, and the suffix of the last.
-pub(crate) fn changes(alloc: Global, words: &[u8], parts: &[u8]) -> Result<(Vec<Change>, Option<CutAt>), LineError>
+pub(crate) fn changes(
+    alloc: Global,
+    words: &[u8],
+    parts: &[u8],
+) -> Result<(Vec<Change>, Option<CutAt>), LineError>
     ensures { Gives (λ x. (x.0.items, x.1)) result (changes_of (words_after words.now) (parts_after parts.now)) }
 {
     let mut changes = Vec::new(alloc);

@@ -5,9 +5,8 @@ ghost use Rattle.schedule_text.specs.Values.{utf8_of};
 ghost use Rattle.schedule_text.specs.Cutting.{lines, pieces, pieces_after, words, words_after, parts_after, first_of};
 ghost use Rattle.schedule_text.specs.Reading.{Gives, ended, provided};
 
-use ring_types::Text;
-
 use crate::faults::LineError;
+use ring_types::Text;
 
 /// The piece up to the first byte `at` outside quotes, and the rest from that byte on.
 pub(crate) fn cut(bytes: &[u8], at: u8) -> (&[u8], &[u8])
@@ -122,9 +121,5 @@ pub(crate) fn text(bytes: Vec<u8>) -> Result<Text, LineError>
 pub(crate) fn provided(test: bool) -> Result<(), LineError>
     ensures { Gives (λ x. tt) result (provided test) }
 {
-    if test {
-        Ok(())
-    } else {
-        Err(LineError::NoForm)
-    }
+    if test { Ok(()) } else { Err(LineError::NoForm) }
 }

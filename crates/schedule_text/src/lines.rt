@@ -3,16 +3,14 @@ ghost use Rattle.schedule_text.specs.Cutting.{words, words_after, parts_after};
 ghost use Rattle.schedule_text.specs.Reading.{Gives};
 ghost use Rattle.schedule_text.specs.Lines.{Said, input_of, act_of, at_node, crash_of, give_of, transfer_of, write_of, short_of, form_of, said_of, is_silent, line_of};
 
-use std::alloc::Global;
-
-use ring_model::{CutAt, Input, Line};
-use ring_types::{List, NodeId};
-
 use crate::changes::changes;
 use crate::cutting::{cut, is, is_utf8, no_more_parts, no_more_words, provided, word};
 use crate::faults::LineError;
 use crate::numbers::{node, number};
 use crate::suffixes::cut_at;
+use ring_model::{CutAt, Input, Line};
+use ring_types::{List, NodeId};
+use std::alloc::Global;
 
 /// What a line says: its event without the line's number.
 pub(crate) type Said = (Line, Option<CutAt>);
@@ -22,16 +20,28 @@ fn input(verb: &[u8], node: u32) -> Result<Line, LineError>
 {
     let node = NodeId(node);
     if is(verb, b"elect") {
-        return Ok(Line::At { node, input: Input::Elect });
+        return Ok(Line::At {
+            node,
+            input: Input::Elect,
+        });
     }
     if is(verb, b"beat") {
-        return Ok(Line::At { node, input: Input::Beat });
+        return Ok(Line::At {
+            node,
+            input: Input::Beat,
+        });
     }
     if is(verb, b"rotate") {
-        return Ok(Line::At { node, input: Input::Rotate { client: 0 } });
+        return Ok(Line::At {
+            node,
+            input: Input::Rotate { client: 0 },
+        });
     }
     if is(verb, b"cancel") {
-        return Ok(Line::At { node, input: Input::Cancel { client: 0 } });
+        return Ok(Line::At {
+            node,
+            input: Input::Cancel { client: 0 },
+        });
     }
     Err(LineError::NoForm)
 }
@@ -92,7 +102,13 @@ fn transfer(number: &[u8], rest: &[u8]) -> Result<Said, LineError>
     let target = node(second)?;
     let cut = cut_at(rest)?;
     let input = Input::Transfer { client: 0, target };
-    Ok((Line::At { node: NodeId(from), input }, cut))
+    Ok((
+        Line::At {
+            node: NodeId(from),
+            input,
+        },
+        cut,
+    ))
 }
 
 #[tactic(auto, unfolding(crate::specs::Lines::write_of))]
@@ -101,8 +117,17 @@ fn write(alloc: Global, number: &[u8], rest: &[u8], parts: &[u8]) -> Result<Said
 {
     let node = node(number)?;
     let (changes, cut) = changes(alloc, rest, parts)?;
-    let input = Input::Write { client: 0, changes: List::from_vec(changes) };
-    Ok((Line::At { node: NodeId(node), input }, cut))
+    let input = Input::Write {
+        client: 0,
+        changes: List::from_vec(changes),
+    };
+    Ok((
+        Line::At {
+            node: NodeId(node),
+            input,
+        },
+        cut,
+    ))
 }
 
 #[tactic(auto, unfolding(crate::specs::Lines::short_of))]

@@ -4,13 +4,11 @@ ghost use Rattle.schedule_text.specs.Reading.{Gives};
 ghost use Rattle.schedule_text.specs.Values.{is_escaped, hex_of, escape_of, bytes_of, Begins, text_of, value_of};
 ghost use Rattle.schedule_text.specs.Changes.{begins_suffix, row_of};
 
-use std::alloc::Global;
-
-use ring_types::{Text, Value};
-
 use crate::cutting::{is, next_word, provided, text};
 use crate::faults::LineError;
 use crate::numbers::{integer, is_digit};
+use ring_types::{Text, Value};
+use std::alloc::Global;
 
 fn is_escaped(byte: u8) -> bool
     ensures { result ≡ is_escaped byte }

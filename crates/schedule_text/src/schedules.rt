@@ -2,14 +2,12 @@ ghost use Rattle.std.specs.Prelude.{◌≡◌, OnOk};
 ghost use Rattle.schedule_text.specs.Lines.{line_of};
 ghost use Rattle.schedule_text.specs.Schedules.{Adds, Refuses, Answers, events_of};
 
-use std::alloc::Global;
-
-use ring_model::Event;
-use ring_types::List;
-
 use crate::cutting::next_line;
 use crate::faults::{LineError, ScheduleError};
 use crate::lines::line;
+use ring_model::Event;
+use ring_types::List;
+use std::alloc::Global;
 
 /// Puts the event of a line behind the others, where the line stands for one.
 fn add_line(

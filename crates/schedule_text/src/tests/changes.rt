@@ -40,12 +40,7 @@ fn two(alloc: Global, first: Value, second: Value) -> Result<List<Value>, Memory
 }
 
 /// Whether the line is the write of the changes at node 1.
-fn writes(
-    alloc: Global,
-    line: &str,
-    changes: List<Change>,
-    cut: Option<CutAt>,
-) -> bool {
+fn writes(alloc: Global, line: &str, changes: List<Change>, cut: Option<CutAt>) -> bool {
     let what = at(1, Input::Write { client: 0, changes });
     stands_for(alloc, line, &Event { line: 1, what, cut })
 }
@@ -65,14 +60,24 @@ fn integers(rt: HostRuntime) -> Result<(), Fail> {
         ("write 1 insert t 7\n", 7),
         ("write 1 insert t -7\n", -7),
         ("write 1 insert t 1000\n", 1000),
-        ("write 1 insert t 9223372036854775807\n", 9223372036854775807),
-        ("write 1 insert t -9223372036854775808\n", -9223372036854775808),
+        (
+            "write 1 insert t 9223372036854775807\n",
+            9223372036854775807,
+        ),
+        (
+            "write 1 insert t -9223372036854775808\n",
+            -9223372036854775808,
+        ),
     ];
     for (line, number) in rows {
-        let same = inserts(alloc, line, Value::Int(number)).ok().ok_or("memory")?;
+        let same = inserts(alloc, line, Value::Int(number))
+            .ok()
+            .ok_or("memory")?;
         assert!(rt; same, "{line}");
     }
-    let same = inserts(alloc, "write 1 insert t null\n", Value::Null).ok().ok_or("memory")?;
+    let same = inserts(alloc, "write 1 insert t null\n", Value::Null)
+        .ok()
+        .ok_or("memory")?;
     assert!(rt; same);
     Ok(())
 }
@@ -83,9 +88,15 @@ fn texts(rt: HostRuntime) -> Result<(), Fail> {
     let rows = [
         ("write 1 insert t ''\n", ""),
         ("write 1 insert t 'a'\n", "a"),
-        ("write 1 insert t 'two words; and more'\n", "two words; and more"),
+        (
+            "write 1 insert t 'two words; and more'\n",
+            "two words; and more",
+        ),
         ("write 1 insert t 'it\\x27s'\n", "it's"),
-        ("write 1 insert t '\\x5c\\x0a\\x7f\\x00'\n", "\\\n\u{7f}\u{0}"),
+        (
+            "write 1 insert t '\\x5c\\x0a\\x7f\\x00'\n",
+            "\\\n\u{7f}\u{0}",
+        ),
         ("write 1 insert t ' stop 1 none'\n", " stop 1 none"),
         ("write 1 insert t 'null'\n", "null"),
         ("write 1 insert t '#'\n", "#"),

@@ -80,7 +80,10 @@ const BAD: [&str; 68] = [
 fn bad_lines(rt: HostRuntime) -> Result<(), Fail> {
     for text in BAD {
         let found = fault(rt.alloc(), text.as_bytes());
-        assert!(rt; found == Some(ScheduleError::BadLine { line: 1, why: 2 }), "{text}");
+        assert!(rt;
+            found == Some(ScheduleError::BadLine { line: 1, why: 2 }),
+            "{text}"
+        );
     }
     Ok(())
 }
@@ -103,7 +106,10 @@ fn first_fault(rt: HostRuntime) -> Result<(), Fail> {
     ];
     for (bytes, line, why) in rows {
         let found = fault(rt.alloc(), bytes);
-        assert!(rt; found == Some(ScheduleError::BadLine { line, why }), "{line} {why}");
+        assert!(rt;
+            found == Some(ScheduleError::BadLine { line, why }),
+            "{line} {why}"
+        );
     }
     Ok(())
 }
@@ -114,10 +120,20 @@ fn silent_lines(rt: HostRuntime) -> Result<(), Fail> {
     assert!(rt; count(rt.alloc(), "") == Some(0));
     assert!(rt; count(rt.alloc(), "\n\n#\n# elect 1\n#elect 1 \n") == Some(0));
     let text = "# two\nelect 1\n\nnext 2\n";
-    let events = read_schedule(rt.alloc(), text.as_bytes()).ok().ok_or("a schedule")?;
+    let events = read_schedule(rt.alloc(), text.as_bytes())
+        .ok()
+        .ok_or("a schedule")?;
     let wanted = [
-        Event { line: 2, what: at(1, Input::Elect), cut: None },
-        Event { line: 4, what: Line::Next(NodeId(2)), cut: None },
+        Event {
+            line: 2,
+            what: at(1, Input::Elect),
+            cut: None,
+        },
+        Event {
+            line: 4,
+            what: Line::Next(NodeId(2)),
+            cut: None,
+        },
     ];
     assert!(rt; events.as_slice() == wanted.as_slice());
     Ok(())

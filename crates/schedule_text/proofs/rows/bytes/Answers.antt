@@ -9,4 +9,4 @@ loop-bytes-preserved c =
     let front = c.loop-bytes.bytes.items in
     let e : bytes_of c.loop-bytes.rest.now ≡ onto (Some c.in-Some.byte) (bytes_of c.in-Some.after.now) = grind (arith, common_steps) in
     rw c.in_ok-push.ensures.items
-        (sym (with_bytes-onto front c.in-Some.byte (bytes_of c.in-Some.after.now)) ∙ ap (with_bytes front) (sym e) ∙ c.loop-bytes.invariant)
+    (sym (with_bytes-onto front c.in-Some.byte (bytes_of c.in-Some.after.now)) ∙ ap (with_bytes front) (sym e) ∙ c.loop-bytes.invariant)

@@ -16,8 +16,8 @@ loop-text-preserved c =
     let split : lines c.loop-text.rest.now ≡ c.in-Some.text.now ∷ lines c.in-Some.after.now = grind (arith, common_steps) in
     let added : Adds c.loop-text.number (line_of c.in-Some.text.now) c.loop-text.events c.add_line.new.events = grind (arith, common_steps) in
     record {
-        events = sym (events_more c.loop-text.events c.add_line.new.events c.loop-text.number c.loop-text.rest.now c.in-Some.text.now c.in-Some.after.now split added) ∙ c.loop-text.invariant.events;
-        count = omega (arith, c.in-Some.ensures.shorter, c.loop-text.invariant.count);
+      events = sym (events_more c.loop-text.events c.add_line.new.events c.loop-text.number c.loop-text.rest.now c.in-Some.text.now c.in-Some.after.now split added) ∙ c.loop-text.invariant.events;
+      count = omega (arith, c.in-Some.ensures.shorter, c.loop-text.invariant.count);
     }
 
 pub returns-in_err-add_line : goal.returns-in_err-add_line
