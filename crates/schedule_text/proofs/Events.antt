@@ -1,5 +1,5 @@
 -- Reading lines one after the other: the events so far, put before those of the lines that are left, are the whole.
-use Rattle.std.proofs.Common.{◌≡◌, ℕ, ◌+◌, ◌<◌, ◌≤◌, ◌==◌, Bool, true, false, cond, List, [], ◌∷◌, ◌++◌, length, take, drop, refl, sym, ap, ◌∙◌, append_assoc, Option, Some, None, Result, Ok, Err}
+use Rattle.std.proofs.Common.{◌≡◌, ℕ, ◌+◌, ◌==◌, Bool, true, false, cond, List, [], ◌∷◌, ◌++◌, length, refl, sym, ap, ◌∙◌, append_assoc, Option, Some, None, Result, Ok, Err}
 use Rattle.std.specs.List.{onto_first}
 use Rattle.std.proofs.lemmas.List.{append-nil}
 use Rattle.ring_model.specs.declared.worlds.Event.{Event}
@@ -7,7 +7,7 @@ use Rattle.schedule_text.specs.declared.faults.ScheduleError.{ScheduleError}
 use Rattle.schedule_text.specs.declared.faults.ScheduleError.TheVariants as refusal
 use Rattle.schedule_text.specs.Cutting.{lines}
 use Rattle.schedule_text.specs.Lines.{Said, line_of}
-use Rattle.schedule_text.specs.Schedules.{event, before, events_from, events_of, Adds, Refuses, Answers}
+use Rattle.schedule_text.specs.Schedules.{event, before, events_from, Adds, Refuses, Answers}
 
 abbrev pub with_events : List Event → Result (List Event) ScheduleError → Result (List Event) ScheduleError
 with_events front (Ok events) = Ok (front ++ events)

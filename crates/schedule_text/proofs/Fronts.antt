@@ -1,5 +1,5 @@
 -- Reading values, and changes, one after the other: what was read, put before what is still read, is the whole.
-use Rattle.std.proofs.Common.{◌≡◌, ℕ, Bool, true, false, List, [], ◌∷◌, ◌++◌, refl, sym, ap, ◌∙◌, append_assoc, Option, Some, None}
+use Rattle.std.proofs.Common.{◌≡◌, ℕ, true, false, List, [], ◌∷◌, ◌++◌, refl, sym, ap, append_assoc, Option, Some, None}
 use Rattle.std.proofs.lemmas.List.{append-nil}
 use Rattle.ring_types.specs.declared.values.Value.{Value}
 use Rattle.ring_types.specs.declared.values.Change.{Change}

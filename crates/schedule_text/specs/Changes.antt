@@ -1,5 +1,5 @@
 -- The changes of a write, and the suffix behind them.
-use Rattle.std.specs.Prelude.{ℕ, ◌==◌, Bool, false, not, ◌||◌, List, [], ◌∷◌, length, bytes_eq, codes, if◌then◌else◌, Option, Some, None}
+use Rattle.std.specs.Prelude.{ℕ, ◌==◌, Bool, ◌||◌, List, [], ◌∷◌, length, bytes_eq, codes, if◌then◌else◌, Option, Some, None}
 use Rattle.ring_types.specs.Names.{is_name}
 use Rattle.ring_types.specs.declared.entries.Keep.{Keep}
 use Rattle.ring_types.specs.declared.entries.Keep.TheVariants as keep
@@ -11,7 +11,7 @@ use Rattle.ring_model.specs.declared.worlds.CutAt.TheVariants as cut
 use Rattle.schedule_text.specs.Cutting.{Word, words, first_of}
 use Rattle.schedule_text.specs.Numbers.{call_of}
 use Rattle.schedule_text.specs.Values.{value_of}
-use Rattle.schedule_text.specs.Reading.{◌>>=◌, provided, ended}
+use Rattle.schedule_text.specs.Reading.{◌>>=◌, ended}
 
 -- ---- the suffix that stops or fails a disk call
 -- the word with which a suffix begins; no value is written so

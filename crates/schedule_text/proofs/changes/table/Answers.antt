@@ -1,5 +1,4 @@
 use Rattle.std.proofs.Common.{◌≡◌, true, arith}
-use Rattle.std.specs.Str.{is_utf8}
 use Rattle.ring_types.specs.Names.{is_name}
 use Rattle.schedule_text.proofs.Utf8.{name_utf8}
 use Rattle.schedule_text.proofs.changes.table.Goals as goal

@@ -1,4 +1,4 @@
-use Rattle.std.proofs.Common.{◌<◌, length, drop, get_or, ◌+◌, ◌-◌, ◌*◌, ◌^◌, arith}
+use Rattle.std.proofs.Common.{◌<◌, length, drop, get_or, ◌+◌, ◌-◌, ◌*◌, arith}
 use Rattle.schedule_text.proofs.Digits.{number_more, number_grows}
 use Rattle.schedule_text.proofs.numbers.number_of_digits.Goals as goal
 
