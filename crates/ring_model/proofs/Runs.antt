@@ -1,11 +1,6 @@
-<<<<<<< HEAD
 -- Every run of every ring is safe, and each leader's region is covered by the later elections: the invariant holds in the first world and each event keeps it.
 use Rattle.std.specs.Prelude.{slice_get}
 use Rattle.std.proofs.Common.{◌≡◌, ℕ, ◌<◌, [], ◌∷◌, ◌++◌, ◌∙◌, List, None, Some, ap, append_assoc, arith, length, refl, subst, sym}
-=======
--- Every run of every ring has what `SafeSoFar` says, and later elections cover the regions of earlier leaders: the invariant holds in the first world and each event keeps it.
-use Rattle.std.proofs.Common.{◌≡◌, ℕ, ◌<◌, [], ◌∷◌, ◌++◌, ◌∙◌, List, None, ap, append_assoc, arith, length, refl, subst, sym}
->>>>>>> 10d259d11398a696ec1e4fee1c2e5501f8279a3d
 use Rattle.std.proofs.lemmas.List.{append-nil}
 use Rattle.std.specs.List.{Contains}
 use Rattle.ring_types.specs.declared.entries.Entry.{Entry}

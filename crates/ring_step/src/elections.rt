@@ -8,9 +8,7 @@ ghost use Rattle.ring_model.specs.Elections as spec;
 use crate::actions::{all_done, has_room};
 use crate::needs::{votes_between, wins};
 use crate::places::{is_voter, region_of};
-use crate::steps::{
-    advance, demoted, idle, is_leader, own_entry, stepped, unknowns, with_append,
-};
+use crate::steps::{advance, demoted, idle, is_leader, own_entry, stepped, unknowns, with_append};
 use ring_model::{Action, Body, Durable, Message, Peer, RequestVote, Role, Say, Soft, Step};
 use ring_plain::{last, region_at, term_at};
 use ring_types::{
@@ -99,7 +97,15 @@ pub fn has_won(
     let base = last(log);
     let base_region = region_at(ring.home(), log, log.len() as u64);
     let own = region_of(ring, me);
-    wins(alloc, ring, base.term, base_region, own, durable.term, grants)
+    wins(
+        alloc,
+        ring,
+        base.term,
+        base_region,
+        own,
+        durable.term,
+        grants,
+    )
 }
 
 fn ask(
@@ -263,7 +269,13 @@ fn stand(
     let says = unknowns(alloc, soft)?;
     let grants = own_grants(alloc, me, durable, first.as_slice())?;
     let asked = last(durable.log.as_slice());
-    let asks = requests(alloc, me, durable.term + 1, asked, ring.members().as_slice())?;
+    let asks = requests(
+        alloc,
+        me,
+        durable.term + 1,
+        asked,
+        ring.members().as_slice(),
+    )?;
     let soft = demoted(alloc, soft.copy(alloc)?);
     lead_or_ask(alloc, ring, me, durable, soft, first, says, grants, asks)
 }

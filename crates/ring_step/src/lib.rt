@@ -20,9 +20,7 @@ pub use actions::{
     all_done, done, has_room, holder_of, is_held, is_prepared, is_txn_at, pair_of, pairs_in,
     same_key, vote_in, votes_above, writes_key,
 };
-pub use elections::{
-    elect, first_peers, floor_of, has_won, lead, lead_or_ask, new_vote, requests,
-};
+pub use elections::{elect, first_peers, floor_of, has_won, lead, lead_or_ask, new_vote, requests};
 pub use needs::{Report, closure, need, reports, votes_between, wins};
 pub use places::{has_engine, is_voter, region_of, runs_engine, server_of};
 pub use quorums::{commits, covers, is_listed, zone};

@@ -28,7 +28,12 @@ impl Model for Report {
 }
 
 /// The votes of terms strictly between `low` and `high`.
-pub fn votes_between(alloc: Global, low: u64, high: u64, votes: &[Vote]) -> Result<List<Vote>, Memory>
+pub fn votes_between(
+    alloc: Global,
+    low: u64,
+    high: u64,
+    votes: &[Vote],
+) -> Result<List<Vote>, Memory>
     ensures { IfOk result (λ it. it ≡ spec.votes_between low high votes.now) }
 {
     let mut between = List::new(alloc);
@@ -61,12 +66,7 @@ fn with_reports_of(
 }
 
 /// What the granted voters report of terms strictly between `low` and `high`.
-pub fn reports(
-    alloc: Global,
-    low: u64,
-    high: u64,
-    grants: &[Grant],
-) -> Result<List<Report>, Memory>
+pub fn reports(alloc: Global, low: u64, high: u64, grants: &[Grant]) -> Result<List<Report>, Memory>
     ensures { IfOk result (λ it. it ≡ spec.reports low high grants.now) }
 {
     let mut told = List::new(alloc);

@@ -7,7 +7,9 @@ ghost use Rattle.ring_model.specs.declared.effects.Action.TheVariants as action;
 use crate::actions::{all_done, is_prepared, pair_of};
 use crate::places::{region_of, runs_engine};
 use crate::quorums::commits;
-use ring_model::{Action, Durable, Message, Mock, Peer, Pending, Plan, Role, Say, Soft, Step, Transfer, What};
+use ring_model::{
+    Action, Durable, Message, Mock, Peer, Pending, Plan, Role, Say, Soft, Step, Transfer, What,
+};
 use ring_plain::{entry_at, joined, term_at};
 use ring_types::{Duplicate, Entry, List, Memory, NodeId, Opid, Pair, Payload, Ring};
 use std::alloc::Global;
@@ -31,12 +33,7 @@ pub fn is_ready(soft: &Soft) -> bool
 }
 
 /// The step of these actions, messages and sayings, with this soft part.
-pub fn stepped(
-    actions: List<Action>,
-    messages: List<Message>,
-    says: List<Say>,
-    soft: Soft,
-) -> Step
+pub fn stepped(actions: List<Action>, messages: List<Message>, says: List<Say>, soft: Soft) -> Step
     ensures { result ≡ spec.stepped actions messages says soft }
 {
     Step {
@@ -101,12 +98,7 @@ pub fn holders(alloc: Global, position: u64, peers: &[Peer]) -> Result<List<Node
     Ok(found)
 }
 
-fn acks(
-    alloc: Global,
-    me: NodeId,
-    position: u64,
-    peers: &[Peer],
-) -> Result<List<NodeId>, Memory>
+fn acks(alloc: Global, me: NodeId, position: u64, peers: &[Peer]) -> Result<List<NodeId>, Memory>
     ensures { IfOk result (λ it. it ≡ me ∷ spec.holders position peers.now) }
 {
     let mut all = List::new(alloc);
@@ -334,11 +326,7 @@ pub fn own_entry(ring: &Ring, me: NodeId, durable: &Durable, payload: Payload) -
 }
 
 /// The actions that come first, and after them the appending of an entry.
-pub fn with_append(
-    alloc: Global,
-    first: List<Action>,
-    entry: Entry,
-) -> Result<List<Action>, Memory>
+pub fn with_append(alloc: Global, first: List<Action>, entry: Entry) -> Result<List<Action>, Memory>
     ensures { IfOk result (λ it. it ≡ first ++ (action.Append (entry ∷ []) ∷ [])) }
 {
     let mut actions = first;

@@ -7,7 +7,7 @@ use ring_model::{
     Action, Body, Cause, Durable, Message, Mock, Peer, Pending, Plan, RequestVote, Role, Say, Soft,
     Step, Transfer, What,
 };
-use ring_plain::{first_items, rows, Tables};
+use ring_plain::{Tables, first_items, rows};
 use ring_types::{
     Change, Column, Entry, Grant, Gtid, Kind, List, MemberPart, Memory, NodeId, Opid, Pair,
     Payload, RegionId, Ring, RingParts, RowRefusal, Schema, Shape, Table, Text, Txn, Value, Vote,
@@ -57,11 +57,7 @@ fn schema(alloc: Global) -> Result<Schema, Memory> {
     })
 }
 
-fn ring(
-    alloc: Global,
-    regions: &[&str],
-    members: List<MemberPart>,
-) -> Result<Ring, Fail> {
+fn ring(alloc: Global, regions: &[&str], members: List<MemberPart>) -> Result<Ring, Fail> {
     let mut names = List::new(alloc);
     for region in regions {
         names.push(text(alloc, region)?)?;
@@ -239,7 +235,10 @@ fn reported_votes_make_regions_needed(rt: HostRuntime) -> Result<(), Fail> {
         regions.push(home)?;
         regions.push(home)?;
         let grants = one(alloc, grant(voter, one(alloc, vote(term, 2, 2))?))?;
-        assert_eq!(rt; need(alloc, &ring, 1, home, home, 5, grants.as_slice())?, regions);
+        assert_eq!(rt;
+            need(alloc, &ring, 1, home, home, 5, grants.as_slice())?,
+            regions
+        );
     }
     Ok(())
 }
@@ -251,13 +250,25 @@ fn a_chain_of_reports_is_followed(rt: HostRuntime) -> Result<(), Fail> {
     let home = RegionId(1);
     let first = grant(1, one(alloc, vote(2, 2, 2))?);
     let mut grants = one(alloc, first)?;
-    assert_eq!(rt; wins(alloc, &ring, 1, home, home, 5, grants.as_slice())?, false);
+    assert_eq!(rt;
+        wins(alloc, &ring, 1, home, home, 5, grants.as_slice())?,
+        false
+    );
     grants.push(grant(2, List::new(alloc)))?;
-    assert_eq!(rt; wins(alloc, &ring, 1, home, home, 5, grants.as_slice())?, true);
+    assert_eq!(rt;
+        wins(alloc, &ring, 1, home, home, 5, grants.as_slice())?,
+        true
+    );
     grants.push(grant(2, one(alloc, vote(3, 3, 3))?))?;
-    assert_eq!(rt; wins(alloc, &ring, 1, home, home, 5, grants.as_slice())?, false);
+    assert_eq!(rt;
+        wins(alloc, &ring, 1, home, home, 5, grants.as_slice())?,
+        false
+    );
     grants.push(grant(3, List::new(alloc)))?;
-    assert_eq!(rt; wins(alloc, &ring, 1, home, home, 5, grants.as_slice())?, true);
+    assert_eq!(rt;
+        wins(alloc, &ring, 1, home, home, 5, grants.as_slice())?,
+        true
+    );
     Ok(())
 }
 
@@ -265,7 +276,12 @@ fn a_chain_of_reports_is_followed(rt: HostRuntime) -> Result<(), Fail> {
 fn a_leader_commits_entries_of_its_own_term(rt: HostRuntime) -> Result<(), Fail> {
     let alloc = rt.alloc();
     let ring = three(alloc)?;
-    for (terms, matched, wanted) in [((1, 1), 2, 0), ((1, 2), 2, 2), ((1, 2), 1, 0), ((2, 2), 1, 1)] {
+    for (terms, matched, wanted) in [
+        ((1, 1), 2, 0),
+        ((1, 2), 2, 2),
+        ((1, 2), 1, 0),
+        ((2, 2), 1, 1),
+    ] {
         let log = pair(
             alloc,
             entry(terms.0, 1, Payload::NoOp),
@@ -295,10 +311,26 @@ fn a_full_history_stops_an_election(rt: HostRuntime) -> Result<(), Fail> {
     for term in 1..1025 {
         before.votes.push(vote(term, 1, 1))?;
     }
-    let full = elect(alloc, &ring, NodeId(1), &before, &soft(alloc, Role::Follower, 0, 0))?;
+    let full = elect(
+        alloc,
+        &ring,
+        NodeId(1),
+        &before,
+        &soft(alloc, Role::Follower, 0, 0),
+    )?;
     assert_eq!(rt; full.plan.actions.len(), 0);
-    let stands = elect(alloc, &ring, NodeId(1), &before, &soft(alloc, Role::Follower, 1, 0))?;
-    assert_eq!(rt; stands.plan.actions.len(), 5, "the commit position's term frees one vote");
+    let stands = elect(
+        alloc,
+        &ring,
+        NodeId(1),
+        &before,
+        &soft(alloc, Role::Follower, 1, 0),
+    )?;
+    assert_eq!(rt;
+        stands.plan.actions.len(),
+        5,
+        "the commit position's term frees one vote"
+    );
     Ok(())
 }
 
@@ -337,7 +369,15 @@ fn a_write_is_told_when_it_is_committed(rt: HostRuntime) -> Result<(), Fail> {
     let gtid = written(alloc, List::new(alloc)).gtid;
     let tables: Tables = one(alloc, List::new(alloc))?;
     let changes = insert(alloc, "t", 5)?;
-    let told = says(alloc, 70000, What::Committed { gtid, opid, term: 1 })?;
+    let told = says(
+        alloc,
+        70000,
+        What::Committed {
+            gtid,
+            opid,
+            term: 1,
+        },
+    )?;
     for (ring, told, pending, count) in [
         (lone(alloc)?, told, List::new(alloc), 3),
         (
@@ -356,7 +396,16 @@ fn a_write_is_told_when_it_is_committed(rt: HostRuntime) -> Result<(), Fail> {
     ] {
         let rows = applied_rows(alloc, &ring, &before)?;
         assert_eq!(rt; rows, tables);
-        let step = write(alloc, &ring, NodeId(1), &before, &leader, &rows, 70000, &changes)?;
+        let step = write(
+            alloc,
+            &ring,
+            NodeId(1),
+            &before,
+            &leader,
+            &rows,
+            70000,
+            &changes,
+        )?;
         assert_eq!(rt; step.plan.says, told);
         assert_eq!(rt; step.soft.pending, pending);
         assert_eq!(rt; step.plan.actions.len(), count);
@@ -384,7 +433,11 @@ fn refused(alloc: Global, cause: Cause) -> Result<List<Say>, Memory> {
 fn a_write_is_refused_for_the_first_cause(rt: HostRuntime) -> Result<(), Fail> {
     let alloc = rt.alloc();
     let full = lone(alloc)?;
-    let tailer = ring(alloc, &["a"], one(alloc, part(alloc, 1, "a", Kind::Tailer)?)?)?;
+    let tailer = ring(
+        alloc,
+        &["a"],
+        one(alloc, part(alloc, 1, "a", Kind::Tailer)?)?,
+    )?;
     let mut before = durable(alloc, 1, one(alloc, entry(1, 1, Payload::NoOp))?);
     let opid = Opid {
         term: 1,

@@ -8,7 +8,7 @@ use crate::actions::holder_of;
 use crate::places::{runs_engine, server_of};
 use crate::steps::{advance, is_leader, is_ready, own_entry, stepped, with_append};
 use ring_model::{Action, Cause, Durable, Pending, Say, Soft, Step, Transfer, What};
-use ring_plain::{check, group_size, next_number, rotates, table_name, Tables};
+use ring_plain::{Tables, check, group_size, next_number, rotates, table_name};
 use ring_types::{
     Change, Duplicate, Entry, Gtid, List, Memory, NodeId, Pair, Payload, Ring, Txn, Value,
 };
@@ -61,11 +61,7 @@ fn change_key(alloc: Global, change: &Change) -> Result<Value, Memory>
 }
 
 /// The first change whose key a prepared transaction writes.
-pub fn lock_of(
-    alloc: Global,
-    pairs: &[Pair],
-    changes: &[Change],
-) -> Result<Option<Cause>, Memory>
+pub fn lock_of(alloc: Global, pairs: &[Pair], changes: &[Change]) -> Result<Option<Cause>, Memory>
     ensures { IfOk result (λ it. it ≡ spec.lock_of pairs.now changes.now) }
 {
     for change in changes {
@@ -199,12 +195,7 @@ fn write_refusal(
     change_refusal(alloc, ring, me, durable, tables, changes)
 }
 
-fn awaits(
-    soft: Soft,
-    client: u32,
-    entry: &Entry,
-    gtid: Gtid,
-) -> Result<Soft, Memory>
+fn awaits(soft: Soft, client: u32, entry: &Entry, gtid: Gtid) -> Result<Soft, Memory>
     ensures { IfOk result (λ it. it ≡ spec.awaits soft client entry.now gtid) }
 {
     let mut soft = soft;
