@@ -12,8 +12,6 @@ mod needs;
 mod places;
 mod quorums;
 mod steps;
-#[cfg(test)]
-mod tests;
 mod writes;
 
 pub use actions::{
