@@ -9,8 +9,6 @@ mod node_block;
 mod reports;
 mod sayings;
 mod table_text;
-#[cfg(test)]
-mod tests;
 mod words;
 
 pub use reports::{write_node, write_report};
