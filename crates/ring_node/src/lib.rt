@@ -1,0 +1,7 @@
+//! The step of a node on an input, as a plain body: foreign messages are left aside, and each input has
+//! its rule.
+#![tactic(auto)]
+
+mod dispatch;
+
+pub use dispatch::step;

@@ -1,0 +1,29 @@
+-- A replay: the world as it is shown, and beside each node the rows that its engine has applied.
+use Rattle.std.specs.Prelude.{◌≡◌, ℕ, Bool, true, false, List, length, map, Result, Ok, Err}
+use Rattle.ring_types.specs.declared.members.Member.{Member}
+use Rattle.ring_types.specs.Rings.{Layout}
+use Rattle.ring_types.specs.Rows.{Tables}
+use Rattle.ring_model.specs.Writes.{committed_rows}
+use Rattle.ring_model.specs.declared.worlds.Shown.{Shown}
+use Rattle.ring_model.specs.declared.worlds.World.{World}
+use Rattle.ring_replay.specs.declared.replays.EventError.{EventError}
+use Rattle.ring_replay.specs.declared.replays.EventError.TheVariants as refusal
+
+pub record ReplayState : Type 0 where
+  pub world : World
+  pub tables : List Tables
+
+abbrev pub rows_of : Layout → Shown → Tables
+rows_of ring s = committed_rows ring s.durable
+
+-- the replay is one of this ring: its nodes and cursors are those of the members, in ring order, and the tables are the rows that each node's engine has applied
+pub record IsHeld (ring : Layout) (r : ReplayState) : Type 0 where
+  pub nodes : map (λ (s : Shown). s.node) r.world.nodes ≡ map (λ (m : Member). m.id) ring.members
+  pub cursors : length r.world.cursors ≡ length ring.members
+  pub tables : r.tables ≡ map (rows_of ring) r.world.nodes
+
+-- an event is refused exactly where its node or its message is not known
+abbrev pub Refuses : Bool → Result (Unit {0}) EventError → Type 0
+Refuses known (Ok done) = known ≡ true
+Refuses known (Err refusal.Unknown) = known ≡ false
+Refuses known (Err refusal.Memory) = Unit {0}
