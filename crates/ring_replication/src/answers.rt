@@ -3,7 +3,8 @@ ghost use Rattle.ring_model.specs.Steps as steps;
 ghost use Rattle.ring_model.specs.declared.effects.Action.TheVariants as action;
 ghost use Rattle.ring_model.specs.Replication as spec;
 
-use ring_model::{Action, AppendReply, Durable, Peer, Soft, Step};
+use crate::appends::new_term;
+use ring_model::{AppendReply, Durable, Peer, Soft, Step};
 use ring_step::{advance, demoted, idle, is_leader, stepped, unknowns};
 use ring_types::{Duplicate, Entry, List, Memory, NodeId, Ring};
 use std::alloc::{AllocError, Global};
@@ -125,8 +126,7 @@ fn leader_hears(
 fn steps_down(alloc: Global, soft: &Soft, term: u64) -> Result<Step, Memory>
     ensures { IfOk result (λ it. it ≡ steps.stepped (action.SetTerm term ∷ []) [] (steps.unknowns soft.now) (steps.demoted soft.now)) }
 {
-    let mut actions = List::new(alloc);
-    actions.push(Action::SetTerm(term))?;
+    let actions = new_term(alloc, term)?;
     let says = unknowns(alloc, soft)?;
     let soft = demoted(alloc, soft.copy(alloc)?);
     Ok(stepped(actions, List::new(alloc), says, soft))
