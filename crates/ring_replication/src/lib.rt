@@ -3,6 +3,14 @@
 //! replication).
 #![tactic(auto)]
 
-mod replication;
+mod answers;
+mod appends;
+mod beats;
+mod relays;
+mod taking;
+mod tears;
 
-pub use replication::{beat, counts, on_ack, on_append, relay};
+pub use answers::{counts, on_ack};
+pub use appends::on_append;
+pub use beats::beat;
+pub use relays::relay;

@@ -1,0 +1,285 @@
+ghost use Rattle.std.specs.Prelude.{◌≡◌, ◌^◌, ◌<◌, ◌++◌, ◌∷◌, [], false, IfOk};
+ghost use Rattle.ring_model.specs.Actions as acts;
+ghost use Rattle.ring_model.specs.Steps as steps;
+ghost use Rattle.ring_model.specs.Replication as spec;
+ghost use Rattle.ring_model.specs.declared.effects.Action.TheVariants as action;
+
+use crate::taking::{kept_position, take_in, unmatched};
+use crate::tears::tear_in;
+use ring_model::{Action, Append, AppendReply, Body, Durable, Message, Role, Say, Soft, Step};
+use ring_plain::{rotates, term_at};
+use ring_step::{all_done, demoted, follow_actions, idle, is_leader, stepped, unknowns};
+use ring_types::{Duplicate, List, Memory, NodeId, Ring};
+use std::alloc::Global;
+
+const FILE_LIMIT: u64 = 999999;
+
+fn reply(me: NodeId, to: NodeId, term: u64, ok: bool, position: u64) -> Message
+    ensures { result ≡ spec.reply me to term ok position }
+{
+    Message {
+        from: me.0,
+        to: to.0,
+        body: Body::AppendReply(AppendReply { term, ok, position }),
+    }
+}
+
+/// The step with one answer to the leader that the message names.
+fn replied(
+    alloc: Global,
+    first: List<Action>,
+    answer: Message,
+    says: List<Say>,
+    soft: Soft,
+) -> Result<Step, Memory>
+    ensures { IfOk result (λ it. it ≡ steps.stepped first (answer ∷ []) says soft) }
+{
+    let mut messages = List::new(alloc);
+    messages.push(answer)?;
+    Ok(stepped(first, messages, says, soft))
+}
+
+/// The durable part once both lists of actions are done.
+fn after_both(
+    alloc: Global,
+    durable: &Durable,
+    first: &[Action],
+    taken: &[Action],
+) -> Result<Durable, Memory>
+    ensures { IfOk result (λ it. it ≡ acts.all_done (acts.all_done durable.now first.now) taken.now) }
+{
+    let after = all_done(alloc, durable.copy(alloc)?, first)?;
+    all_done(alloc, after, taken)
+}
+
+/// The actions that come first, those that take the entries in, and those by which the engine follows.
+fn all_actions(
+    alloc: Global,
+    ring: &Ring,
+    me: NodeId,
+    durable: &Durable,
+    first: List<Action>,
+    taken: List<Action>,
+    commit: u64,
+) -> Result<List<Action>, Memory>
+    ensures { IfOk result (λ it. it ≡ first ++ (taken ++ steps.follow_actions ring.now me (acts.all_done (acts.all_done durable.now first) taken) commit)) }
+{
+    let after = after_both(alloc, durable, first.as_slice(), taken.as_slice())?;
+    let follow = follow_actions(alloc, ring, me, &after, commit)?;
+    let mut actions = first;
+    let mut more = taken;
+    more.append(follow)?;
+    actions.append(more)?;
+    Ok(actions)
+}
+
+fn accept_with(
+    alloc: Global,
+    ring: &Ring,
+    me: NodeId,
+    durable: &Durable,
+    soft: Soft,
+    first: List<Action>,
+    says: List<Say>,
+    sent: &Append,
+    taken: List<Action>,
+) -> Result<Step, Memory>
+    requires { sent.now.prev.position < 2 ^ 63 }
+    ensures { IfOk result (λ it. it ≡ spec.accept_with ring.now me durable.now soft first says sent.now taken) }
+{
+    let last_matched = sent.prev.position + sent.entries.as_slice().len() as u64;
+    let commit = soft.commit.max(sent.commit.min(last_matched));
+    let actions = all_actions(alloc, ring, me, durable, first, taken, commit)?;
+    let answer = reply(me, sent.leader, sent.term, true, last_matched);
+    replied(alloc, actions, answer, says, Soft { commit, ..soft })
+}
+
+fn accept(
+    alloc: Global,
+    ring: &Ring,
+    me: NodeId,
+    durable: &Durable,
+    soft: Soft,
+    first: List<Action>,
+    says: List<Say>,
+    sent: &Append,
+) -> Result<Step, Memory>
+    requires { sent.now.prev.position < 2 ^ 63 }
+    ensures { IfOk result (λ it. it ≡ spec.accept ring.now me durable.now soft first says sent.now) }
+{
+    let entries = sent.entries.as_slice();
+    let rest = unmatched(durable.log.as_slice(), sent.prev.position, entries);
+    let kept = kept_position(sent.prev, entries, rest);
+    let taken = take_in(alloc, ring, me, durable, kept, rest)?;
+    accept_with(alloc, ring, me, durable, soft, first, says, sent, taken)
+}
+
+/// The previous opid has to be in the log; else the leader is told where to try.
+fn match_append(
+    alloc: Global,
+    ring: &Ring,
+    me: NodeId,
+    durable: &Durable,
+    soft: Soft,
+    first: List<Action>,
+    says: List<Say>,
+    sent: &Append,
+) -> Result<Step, Memory>
+    ensures { IfOk result (λ it. it ≡ spec.match_append ring.now me durable.now soft first says sent.now) }
+{
+    let log = durable.log.as_slice();
+    let prev = sent.prev;
+    if (log.len() as u64) < prev.position {
+        let answer = reply(me, sent.leader, sent.term, false, log.len() as u64);
+        replied(alloc, first, answer, says, soft)
+    } else if term_at(log, prev.position) == prev.term {
+        accept(alloc, ring, me, durable, soft, first, says, sent)
+    } else {
+        let answer = reply(
+            me,
+            sent.leader,
+            sent.term,
+            false,
+            prev.position.saturating_sub(1),
+        );
+        replied(alloc, first, answer, says, soft)
+    }
+}
+
+/// The one action that adopts a term.
+pub(crate) fn new_term(alloc: Global, term: u64) -> Result<List<Action>, Memory>
+    ensures { IfOk result (λ it. it ≡ action.SetTerm term ∷ []) }
+{
+    let mut actions = List::new(alloc);
+    actions.push(Action::SetTerm(term))?;
+    Ok(actions)
+}
+
+/// Of a greater term: it is adopted, and the node steps down.
+fn follow_greater(
+    alloc: Global,
+    ring: &Ring,
+    me: NodeId,
+    durable: &Durable,
+    soft: &Soft,
+    sent: &Append,
+) -> Result<Step, Memory>
+    ensures { IfOk result (λ it. it ≡ spec.match_append ring.now me durable.now (steps.demoted soft.now) (action.SetTerm sent.now.term ∷ []) (steps.unknowns soft.now) sent.now) }
+{
+    let first = new_term(alloc, sent.term)?;
+    let says = unknowns(alloc, soft)?;
+    let soft = demoted(alloc, soft.copy(alloc)?);
+    match_append(alloc, ring, me, durable, soft, first, says, sent)
+}
+
+/// Of the candidate's own term: it steps down.
+fn follow_equal(
+    alloc: Global,
+    ring: &Ring,
+    me: NodeId,
+    durable: &Durable,
+    soft: &Soft,
+    sent: &Append,
+) -> Result<Step, Memory>
+    ensures { IfOk result (λ it. it ≡ spec.match_append ring.now me durable.now (steps.demoted soft.now) [] (steps.unknowns soft.now) sent.now) }
+{
+    let says = unknowns(alloc, soft)?;
+    let soft = demoted(alloc, soft.copy(alloc)?);
+    match_append(alloc, ring, me, durable, soft, List::new(alloc), says, sent)
+}
+
+/// Of a term that is not below the node's, and not torn.
+fn follow_append(
+    alloc: Global,
+    ring: &Ring,
+    me: NodeId,
+    durable: &Durable,
+    soft: &Soft,
+    sent: &Append,
+) -> Result<Step, Memory>
+    ensures { IfOk result (λ it. it ≡ spec.follow_append ring.now me durable.now soft.now sent.now) }
+{
+    if durable.term < sent.term {
+        return follow_greater(alloc, ring, me, durable, soft, sent);
+    }
+    match soft.role {
+        Role::Follower => {
+            let soft = soft.copy(alloc)?;
+            match_append(
+                alloc,
+                ring,
+                me,
+                durable,
+                soft,
+                List::new(alloc),
+                List::new(alloc),
+                sent,
+            )
+        }
+        Role::Candidate => follow_equal(alloc, ring, me, durable, soft, sent),
+        Role::Leader => Ok(idle(alloc, soft.copy(alloc)?)),
+    }
+}
+
+/// Whether the files would be too many.
+fn outgrows(durable: &Durable, sent: &Append) -> bool
+    ensures { result ≡ spec.outgrows durable.now sent.now }
+{
+    let kept = rotates(durable.log.as_slice());
+    let more = rotates(sent.entries.as_slice());
+    FILE_LIMIT <= kept.saturating_add(more)
+}
+
+/// Whether the message is of the term that the node leads.
+fn leads_it(durable: &Durable, soft: &Soft, sent: &Append) -> bool
+    ensures { result ≡ spec.leads_it durable.now soft.now sent.now }
+{
+    is_leader(soft.role) && sent.term == durable.term
+}
+
+/// The answer to a message of an earlier term.
+fn refused(
+    alloc: Global,
+    me: NodeId,
+    durable: &Durable,
+    soft: &Soft,
+    sent: &Append,
+) -> Result<Step, Memory>
+    ensures { IfOk result (λ it. it ≡ steps.stepped [] (spec.reply me sent.now.leader durable.now.term false 0 ∷ []) [] soft.now) }
+{
+    let answer = reply(me, sent.leader, durable.term, false, 0);
+    replied(
+        alloc,
+        List::new(alloc),
+        answer,
+        List::new(alloc),
+        soft.copy(alloc)?,
+    )
+}
+
+/// The step of a node that is sent entries.
+#[tactic(auto, unfolding(ring_model::specs::Replication::on_append))]
+pub fn on_append(
+    alloc: Global,
+    ring: &Ring,
+    me: NodeId,
+    durable: &Durable,
+    soft: &Soft,
+    sent: &Append,
+) -> Result<Step, Memory>
+    ensures { IfOk result (λ it. it ≡ spec.on_append ring.now me durable.now soft.now sent.now) }
+{
+    if outgrows(durable, sent) {
+        return Ok(idle(alloc, soft.copy(alloc)?));
+    }
+    if sent.term < durable.term {
+        return refused(alloc, me, durable, soft, sent);
+    }
+    if leads_it(durable, soft, sent) {
+        return Ok(idle(alloc, soft.copy(alloc)?));
+    }
+    match tear_in(durable, soft, sent) {
+        Some(_) => Ok(idle(alloc, soft.copy(alloc)?)),
+        None => follow_append(alloc, ring, me, durable, soft, sent),
+    }
+}

@@ -1,0 +1,57 @@
+ghost use Rattle.std.specs.Prelude.{◌≡◌};
+ghost use Rattle.ring_model.specs.Replication as spec;
+
+use ring_model::{Append, Durable, Soft, Tear};
+use ring_plain::term_at;
+use ring_types::Entry;
+
+/// The least committed position from this one on at which an entry differs in term from the log's.
+#[tactic(auto, using(crate::proofs::Torn::past_commit))]
+fn first_tear(log: &[Entry], commit: u64, position: u64, entries: &[Entry]) -> Option<Tear>
+    ensures { result ≡ spec.first_tear log.now commit position (spec.terms_of entries.now) }
+{
+    let mut at = position;
+    for entry in entries {
+        if commit < at {
+            return None;
+        }
+        let kept = term_at(log, at);
+        if kept != entry.opid.term {
+            return Some(Tear {
+                position: at,
+                kept_term: kept,
+                sent_term: entry.opid.term,
+            });
+        }
+        if at == commit {
+            return None;
+        }
+        at += 1;
+    }
+    None
+}
+
+/// The least position at which the message's previous opid or an entry differs in term from a
+/// committed one.
+#[tactic(auto, using(crate::proofs::Torn::past_commit))]
+pub(crate) fn tear_in(durable: &Durable, soft: &Soft, sent: &Append) -> Option<Tear>
+    ensures { result ≡ spec.tear_in durable.now soft.now sent.now }
+{
+    let log = durable.log.as_slice();
+    let prev = sent.prev;
+    if soft.commit < prev.position {
+        return None;
+    }
+    let kept = term_at(log, prev.position);
+    if kept != prev.term {
+        return Some(Tear {
+            position: prev.position,
+            kept_term: kept,
+            sent_term: prev.term,
+        });
+    }
+    if prev.position == soft.commit {
+        return None;
+    }
+    first_tear(log, soft.commit, prev.position + 1, sent.entries.as_slice())
+}
