@@ -2,24 +2,111 @@ ghost use Rattle.std.specs.Prelude.{◌≡◌, IfOk};
 ghost use Rattle.ring_model.specs.Writes.{committed_rows};
 ghost use Rattle.ring_model.specs.Dispatch as spec;
 
-use ring_model::{Durable, Input, Soft, Step};
+use crate::foreign::is_foreign;
+use ring_model::{Body, Durable, Input, Message, Soft, Step};
 use ring_plain::Tables;
-use ring_types::{Memory, NodeId, Ring};
-use std::alloc::{AllocError, Global};
+use ring_replication::{beat, on_append, relay};
+use ring_step::{elect, idle, rotate, write};
+use ring_transfer::{
+    ask_transfer, cancel, on_answer, on_mock_reply, on_mock_request, on_mock_result, on_mock_start,
+    on_timeout,
+};
+use ring_types::{Duplicate, Memory, NodeId, Ring};
+use ring_voting::{on_reply, on_request};
+use std::alloc::Global;
+
+/// The step on what a message says: a client's message is the input of that name.
+fn body_step(
+    alloc: Global,
+    ring: &Ring,
+    me: NodeId,
+    durable: &Durable,
+    soft: &Soft,
+    tables: &Tables,
+    from: u32,
+    body: &Body,
+) -> Result<Step, Memory>
+    requires { tables.now ≡ committed_rows ring.now durable.now }
+    ensures { IfOk result (λ it. it ≡ spec.body_step ring.now me durable.now soft.now from body.now) }
+{
+    let sender = NodeId(from);
+    match body {
+        Body::RequestVote(asked) => on_request(alloc, ring, me, durable, soft, sender, asked),
+        Body::VoteReply(reply) => on_reply(alloc, ring, me, durable, soft, sender, reply),
+        Body::Append(sent) => on_append(alloc, ring, me, durable, soft, sent),
+        Body::AppendReply(answer) => on_answer(alloc, ring, me, durable, soft, sender, answer),
+        Body::ProxyAppend(sent) => relay(alloc, me, durable, soft, sender, sent),
+        Body::MockStart(sent) => on_mock_start(alloc, ring, me, durable, soft, sender, sent),
+        Body::MockRequest(sent) => on_mock_request(alloc, ring, me, durable, soft, sender, sent),
+        Body::MockReply(sent) => on_mock_reply(alloc, ring, me, durable, soft, sender, sent),
+        Body::MockResult(sent) => on_mock_result(alloc, me, durable, soft, sent),
+        Body::TimeoutNow { term } => on_timeout(alloc, ring, me, durable, soft, *term),
+        Body::ClientWrite { changes } => {
+            write(alloc, ring, me, durable, soft, tables, from, changes)
+        }
+        Body::ClientRotate => rotate(alloc, ring, me, durable, soft, from),
+        Body::ClientTransfer { target } => {
+            ask_transfer(alloc, ring, me, durable, soft, from, *target)
+        }
+        Body::ClientCancel => cancel(alloc, soft, from),
+        Body::ClientReply { .. } => Ok(idle(alloc, soft.copy(alloc)?)),
+    }
+}
+
+/// The step on a message: a foreign one does nothing.
+fn deliver(
+    alloc: Global,
+    ring: &Ring,
+    me: NodeId,
+    durable: &Durable,
+    soft: &Soft,
+    tables: &Tables,
+    message: &Message,
+) -> Result<Step, Memory>
+    requires { tables.now ≡ committed_rows ring.now durable.now }
+    ensures { IfOk result (λ it. it ≡ spec.deliver ring.now me durable.now soft.now message.now) }
+{
+    if is_foreign(ring, me, message) {
+        Ok(idle(alloc, soft.copy(alloc)?))
+    } else {
+        body_step(
+            alloc,
+            ring,
+            me,
+            durable,
+            soft,
+            tables,
+            message.from,
+            &message.body,
+        )
+    }
+}
 
 /// The step of a running node on an input. `tables` are the rows that its engine has applied, which the
 /// caller keeps.
 pub fn step(
-    _alloc: Global,
-    _ring: &Ring,
-    _me: NodeId,
-    _durable: &Durable,
-    _soft: &Soft,
-    _tables: &Tables,
-    _input: &Input,
+    alloc: Global,
+    ring: &Ring,
+    me: NodeId,
+    durable: &Durable,
+    soft: &Soft,
+    tables: &Tables,
+    input: &Input,
 ) -> Result<Step, Memory>
-    requires { _tables.now ≡ committed_rows _ring.now _durable.now }
-    ensures { IfOk result (λ it. it ≡ spec.step _ring.now _me _durable.now _soft.now _input.now) }
+    requires { tables.now ≡ committed_rows ring.now durable.now }
+    ensures { IfOk result (λ it. it ≡ spec.step ring.now me durable.now soft.now input.now) }
 {
-    Err(AllocError)
+    match input {
+        Input::Elect => elect(alloc, ring, me, durable, soft),
+        Input::Beat => beat(alloc, ring, me, durable, soft),
+        Input::Deliver(message) => deliver(alloc, ring, me, durable, soft, tables, message),
+        Input::Write { client, changes } => {
+            write(alloc, ring, me, durable, soft, tables, *client, changes)
+        }
+        Input::Rotate { client } => rotate(alloc, ring, me, durable, soft, *client),
+        Input::Transfer { client, target } => {
+            ask_transfer(alloc, ring, me, durable, soft, *client, *target)
+        }
+        Input::Cancel { client } => cancel(alloc, soft, *client),
+    }
 }

@@ -3,5 +3,6 @@
 #![tactic(auto)]
 
 mod dispatch;
+mod foreign;
 
 pub use dispatch::step;

@@ -2,6 +2,8 @@
 //! FlexiRaft's voting history).
 #![tactic(auto)]
 
+mod replies;
 mod requests;
 
-pub use requests::{on_reply, on_request};
+pub use replies::on_reply;
+pub use requests::on_request;

@@ -1,0 +1,128 @@
+ghost use Rattle.std.specs.Prelude.{◌≡◌, ◌^◌, ◌<◌, ◌++◌, ◌∷◌, [], IfOk, length};
+ghost use Rattle.ring_model.specs.Steps as steps;
+ghost use Rattle.ring_model.specs.declared.effects.Action.TheVariants as action;
+ghost use Rattle.ring_model.specs.Elections as spec;
+
+use ring_model::{Action, Durable, Role, Soft, Step, VoteReply};
+use ring_step::{demoted, idle, lead_or_ask, stepped, unknowns};
+use ring_types::{Duplicate, Entry, Grant, List, Memory, NodeId, Ring};
+use std::alloc::Global;
+
+fn has_granted(grants: &[Grant], from: NodeId) -> bool
+    ensures { result ≡ spec.has_granted grants.now from }
+{
+    grants.iter().any(|grant| grant.voter == from)
+}
+
+fn with_grant(
+    alloc: Global,
+    soft: &Soft,
+    from: NodeId,
+    reply: &VoteReply,
+) -> Result<List<Grant>, Memory>
+    ensures { IfOk result (λ it. it ≡ soft.now.grants ++ record { voter = from; votes = reply.now.votes } ∷ []) }
+{
+    let mut grants = soft.grants.copy(alloc)?;
+    grants.push(Grant {
+        voter: from,
+        votes: reply.votes.copy(alloc)?,
+    })?;
+    Ok(grants)
+}
+
+/// A slice has fewer than 2^63 items. It does nothing.
+fn law_fits(log: &[Entry])
+    ensures { length log.now < 2 ^ 63 }
+{
+    let _ = log;
+}
+
+/// The step of a candidate with one grant more.
+fn count_on(
+    alloc: Global,
+    ring: &Ring,
+    me: NodeId,
+    durable: &Durable,
+    soft: Soft,
+    grants: List<Grant>,
+) -> Result<Step, Memory>
+    ensures { IfOk result (λ it. it ≡ spec.lead_or_ask ring.now me durable.now soft [] [] grants []) }
+{
+    law_fits(durable.log.as_slice());
+    let none = List::new(alloc);
+    let nothing = List::new(alloc);
+    let no_asks = List::new(alloc);
+    lead_or_ask(
+        alloc, ring, me, durable, soft, none, nothing, grants, no_asks,
+    )
+}
+
+/// A grant of the present term counts once.
+fn count_grant(
+    alloc: Global,
+    ring: &Ring,
+    me: NodeId,
+    durable: &Durable,
+    soft: &Soft,
+    from: NodeId,
+    reply: &VoteReply,
+) -> Result<Step, Memory>
+    ensures { IfOk result (λ it. it ≡ spec.count_grant ring.now me durable.now soft.now from reply.now) }
+{
+    let same = soft.copy(alloc)?;
+    if reply.granted && reply.term == durable.term && !has_granted(soft.grants.as_slice(), from) {
+        let grants = with_grant(alloc, soft, from, reply)?;
+        count_on(alloc, ring, me, durable, same, grants)
+    } else {
+        Ok(idle(alloc, same))
+    }
+}
+
+/// The step of a candidate that learns of a greater term.
+fn adopt_term(alloc: Global, soft: &Soft, term: u64) -> Result<Step, Memory>
+    ensures { IfOk result (λ it. it ≡ steps.stepped (action.SetTerm term ∷ []) [] (steps.unknowns soft.now) (steps.demoted soft.now)) }
+{
+    let mut actions = List::new(alloc);
+    actions.push(Action::SetTerm(term))?;
+    let says = unknowns(alloc, soft)?;
+    let soft = demoted(alloc, soft.copy(alloc)?);
+    Ok(stepped(actions, List::new(alloc), says, soft))
+}
+
+fn candidate_hears(
+    alloc: Global,
+    ring: &Ring,
+    me: NodeId,
+    durable: &Durable,
+    soft: &Soft,
+    from: NodeId,
+    reply: &VoteReply,
+) -> Result<Step, Memory>
+    ensures { IfOk result (λ it. it ≡ spec.candidate_hears ring.now me durable.now soft.now from reply.now) }
+{
+    if durable.term < reply.term {
+        adopt_term(alloc, soft, reply.term)
+    } else {
+        count_grant(alloc, ring, me, durable, soft, from, reply)
+    }
+}
+
+/// The step of a node that hears the answer of the voter `from`.
+#[tactic(auto, unfolding(ring_model::specs::Elections::on_reply))]
+pub fn on_reply(
+    alloc: Global,
+    ring: &Ring,
+    me: NodeId,
+    durable: &Durable,
+    soft: &Soft,
+    from: NodeId,
+    reply: &VoteReply,
+) -> Result<Step, Memory>
+    ensures { IfOk result (λ it. it ≡ spec.on_reply ring.now me durable.now soft.now from reply.now) }
+{
+    match soft.role {
+        Role::Follower => Ok(idle(alloc, soft.copy(alloc)?)),
+        Role::Candidate => candidate_hears(alloc, ring, me, durable, soft, from, reply),
+        Role::Leader => Ok(idle(alloc, soft.copy(alloc)?)),
+    }
+}
