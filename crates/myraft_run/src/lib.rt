@@ -13,6 +13,8 @@ mod lines;
 mod replaying;
 mod running;
 mod stops;
+#[cfg(test)]
+mod tests;
 mod words;
 
 pub use running::run;
