@@ -23,7 +23,7 @@ use Rattle.ring_model.specs.declared.worlds.World.{World}
 use Rattle.ring_model.specs.declared.worlds.Event.{Event}
 use Rattle.ring_model.specs.declared.worlds.Line.{Line}
 use Rattle.ring_model.specs.declared.worlds.Line.TheVariants as line
-use Rattle.ring_replay.specs.Steps.{place_of, cursor_at, shown_passed, shown_cursor, shown_turned, shown_handled, shown_turn, turn_of, turn_at, shown_member_turn, shown_given, shown_next_to, shown_moved, moved_at, shown_next_given, shown_skipped, shown_at_node, shown_step, shown_known}
+use Rattle.ring_replay.specs.Steps.{place_of, cursor_at, shown_passed, shown_cursor, shown_turned, shown_handled, shown_turn, turn_of, turn_at, shown_member_turn, shown_given, shown_next_to, shown_moved, moved_at, shown_next_given, shown_skipped, shown_at_node, shown_step, known_among}
 use Rattle.ring_replay.proofs.Places.{IsOnly, only_place, none_found, only_found, only_any, map_apart, map_set_only}
 
 -- each number stands once
@@ -162,7 +162,7 @@ pub step_is : (ring : Layout) (w : WorldState) (e : Event) → IsOnce ring → i
 unfolding world_step
 step_is ring w e once known = line_is ring w e.what once known
 
-pub known_is : (ring : Layout) (w : WorldState) (l : Line) → shown_known ring (shown ring w) l ≡ is_known ring w l
+pub known_is : (ring : Layout) (w : WorldState) (l : Line) → known_among ring (shown ring w).messages l ≡ is_known ring w l
 unfolding shown
 known_is ring w (line.At node i) = refl
 known_is ring w (line.Give number) = refl

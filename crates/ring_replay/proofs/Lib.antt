@@ -1,2 +1,5 @@
-pub mod Places
+pub mod Applying
+pub mod Held
 pub mod Law
+pub mod Places
+pub mod Sent

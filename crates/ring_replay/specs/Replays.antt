@@ -16,6 +16,10 @@ pub record ReplayState : Type 0 where
 abbrev pub rows_of : Layout → Shown → Tables
 rows_of ring s = committed_rows ring s.durable
 
+-- the tables are the rows that each node's engine has applied
+abbrev pub HasTables : Layout → ReplayState → Type 0
+HasTables ring r = r.tables ≡ map (rows_of ring) r.world.nodes
+
 -- the replay is one of this ring: its nodes and cursors are those of the members, in ring order, and the tables are the rows that each node's engine has applied
 pub record IsHeld (ring : Layout) (r : ReplayState) : Type 0 where
   pub nodes : map (λ (s : Shown). s.node) r.world.nodes ≡ map (λ (m : Member). m.id) ring.members

@@ -3,7 +3,7 @@ use Rattle.std.specs.Prelude.{ℕ, zero, suc, ◌==◌, nat_lt, nat_le, Bool, �
 use Rattle.ring_types.specs.declared.members.Member.{Member}
 use Rattle.ring_types.specs.Rings.{Layout, is_member}
 use Rattle.ring_model.specs.Actions.{all_done}
-use Rattle.ring_model.specs.Nodes.{Node, recover, fresh_soft}
+use Rattle.ring_model.specs.Nodes.{Node, recover, fresh_soft, empty_durable}
 use Rattle.ring_model.specs.Dispatch.{step}
 use Rattle.ring_model.specs.Worlds.{Task, Handle, GoDown, ComeUp, grown, said_in, message_at, next_from}
 use Rattle.ring_model.specs.Runs.{is_whole_input}
@@ -36,6 +36,10 @@ shown_cursor ring v id = cursor_at v.cursors (place_of ring id)
 abbrev pub node_of : Shown → Node
 node_of s = record { durable = s.durable; soft = s.soft }
 
+-- what stands in a node's place while its turn is on
+abbrev pub nobody : Shown
+nobody = record { node = 0; durable = empty_durable; soft = None }
+
 -- the node at the place becomes this, sends and says this
 unfoldable pub shown_turned : World → ℕ → Shown → List Message → List Say → World
 shown_turned v place s messages says = record {
@@ -57,6 +61,11 @@ ended_node s st = record s { durable = all_done s.durable st.plan.actions; soft 
 
 abbrev pub shown_ended : World → ℕ → Shown → Step → World
 shown_ended v place s st = shown_turned v place (ended_node s st) st.plan.messages st.plan.says
+
+-- the step of the node at that place ended
+abbrev pub ended_at : World → ℕ → Step → Option Shown → World
+ended_at v place st None = shown_passed v
+ended_at v place st (Some s) = shown_ended v place s st
 
 -- an input at a node that is down does nothing, and a message given to it is lost
 abbrev pub shown_handled : Layout → World → ℕ → Shown → Input → Option Soft → World
@@ -127,12 +136,12 @@ shown_step ring v (line.Again node) = shown_given ring v (message_at v.messages 
 shown_step ring v (line.Crash node) = shown_member_turn ring v node GoDown
 shown_step ring v (line.Restart node) = shown_member_turn ring v node ComeUp
 
--- the event's node is in the ring, and its message was sent
-abbrev pub shown_known : Layout → World → Line → Bool
-shown_known ring v (line.At node i) = is_member ring node && is_whole_input i
-shown_known ring v (line.Give number) = nat_lt 0 number && nat_le number (length v.messages)
-shown_known ring v (line.Next node) = is_member ring node
-shown_known ring v (line.Skip node) = is_member ring node
-shown_known ring v (line.Again node) = is_member ring node
-shown_known ring v (line.Crash node) = is_member ring node
-shown_known ring v (line.Restart node) = is_member ring node
+-- the event's node is in the ring, and its message is among these
+abbrev pub known_among : Layout → List Message → Line → Bool
+known_among ring messages (line.At node i) = is_member ring node && is_whole_input i
+known_among ring messages (line.Give number) = nat_lt 0 number && nat_le number (length messages)
+known_among ring messages (line.Next node) = is_member ring node
+known_among ring messages (line.Skip node) = is_member ring node
+known_among ring messages (line.Again node) = is_member ring node
+known_among ring messages (line.Crash node) = is_member ring node
+known_among ring messages (line.Restart node) = is_member ring node

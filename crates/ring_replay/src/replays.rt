@@ -1,12 +1,18 @@
-ghost use Rattle.std.specs.Prelude.{◌≡◌, ℕ, ◌+◌, ◌-◌, ◌^◌, ◌<◌, IfOk, OnOk, Err};
-ghost use Rattle.ring_model.specs.Worlds.{WorldState, Whole, world_step, first_world, shown};
+ghost use Rattle.std.specs.Prelude.{◌≡◌, ℕ, ◌+◌, ◌-◌, ◌^◌, ◌<◌, IfOk, OnOk, Err, Some, length, slice_get};
+ghost use Rattle.ring_model.specs.Worlds.{WorldState, Whole, Handle, GoDown, ComeUp, world_step, first_world, shown, message_at, next_from};
 ghost use Rattle.ring_model.specs.Runs.{is_known};
-ghost use Rattle.ring_replay.specs.Replays.{IsHeld, Refuses};
+ghost use Rattle.ring_model.specs.declared.messages.Message.{Message};
+ghost use Rattle.ring_replay.specs.Replays.{ReplayState, IsHeld, HasTables, Refuses};
+ghost use Rattle.ring_replay.specs.Turns.{taken_turn, emptied};
+ghost use Rattle.ring_replay.specs.Steps as steps;
 
-use ring_model::{Event, World};
-use ring_plain::Tables;
-use ring_types::{Duplicate, List, Memory, Ring};
-use std::alloc::{AllocError, Global};
+use crate::beginnings::{first_cursors, first_nodes, first_tables, grow, nobody, replaced};
+use crate::messages::{add_said, is_known, message_at, next_to, place_of};
+use crate::turns::{Turn, answer, downed, ended, restarted};
+use ring_model::{Event, Input, Line, Message, Shown, Step, World};
+use ring_plain::{Tables, joined};
+use ring_types::{Duplicate, List, Memory, NodeId, Ring};
+use std::alloc::Global;
 use std::marker::Model;
 
 /// Why an event was not taken.
@@ -20,10 +26,14 @@ pub enum EventError {
 }
 
 /// A ring's run: the world after the events so far.
+///
+/// The list of nodes of `world` stands empty: they are in `nodes`, so that a turn may take one out
+/// and change it in place. `tables` has for each node the rows that its engine has applied.
 #[derive(Drop)]
 pub struct Replay {
     world: World,
-    tables: List<Tables>,
+    nodes: Vec<Shown>,
+    tables: Vec<Tables>,
 }
 
 impl Model for Replay {
@@ -31,16 +41,113 @@ impl Model for Replay {
 
     ghost Value = { ReplayState };
 
-    ghost view = { λ r. record { world = r.world; tables = r.tables } };
+    ghost view = { λ r. record { world = record r.world { nodes = r.nodes.items }; tables = r.tables.items } };
+}
+
+/// A node that was taken out for its turn, with the rows that its engine has applied.
+#[derive(Drop)]
+struct Taken {
+    shown: Shown,
+    rows: Tables,
 }
 
 impl Replay {
     /// The world before the first event: every node runs on the empty durable part.
-    pub fn new(_alloc: Global, _ring: &Ring) -> Result<Replay, Memory>
-        ensures world { IfOk result (λ it. it.world ≡ shown _ring.now first_world) }
-        ensures held { IfOk result (λ it. IsHeld _ring.now it) }
+    #[tactic(auto, unfolding(ring_model::specs::Worlds::shown))]
+    pub fn new(alloc: Global, ring: &Ring) -> Result<Replay, Memory>
+        ensures world { IfOk result (λ it. it.world ≡ shown ring.now first_world) }
+        ensures held { IfOk result (λ it. IsHeld ring.now it) }
     {
-        Err(AllocError)
+        let nodes = first_nodes(alloc, ring)?;
+        let cursors = first_cursors(alloc, ring)?;
+        let tables = first_tables(alloc, ring)?;
+        Ok(Replay {
+            world: World {
+                events: 0,
+                nodes: List::new(alloc),
+                messages: List::new(alloc),
+                cursors,
+                said: List::new(alloc),
+                kept: List::new(alloc),
+                chosen: List::new(alloc),
+            },
+            nodes,
+            tables,
+        })
+    }
+
+    fn pass(&mut self)
+        requires few { self.old.world.events < 2 ^ 64 - 1 }
+        ensures world { self.new.world ≡ steps.shown_passed self.old.world }
+        ensures tables { self.new.tables ≡ self.old.tables }
+    {
+        self.world.events += 1;
+    }
+
+    /// The node at a place becomes, sends and says what its turn made.
+    #[tactic(auto, unfolding(crate::specs::Turns::taken_turn, crate::specs::Steps::shown_turned))]
+    fn take_turn(&mut self, alloc: Global, place: usize, turn: Turn) -> Result<(), Memory>
+        requires few { self.old.world.events < 2 ^ 64 - 1 }
+        requires node { place < length self.old.world.nodes }
+        requires rows { place < length self.old.tables }
+        ensures { OnOk result (self.new ≡ taken_turn self.old place turn) }
+    {
+        let Turn {
+            shown,
+            rows,
+            messages,
+            says,
+        } = turn;
+        let event = self.world.events + 1;
+        self.world.events = event;
+        add_said(alloc, &mut self.world.said, event, shown.node, says.as_slice())?;
+        self.world.messages.append(messages)?;
+        grow(alloc, &mut self.world.chosen, &shown)?;
+        self.nodes[place] = shown;
+        self.tables[place] = rows;
+        Ok(())
+    }
+
+    #[tactic(auto, unfolding(crate::specs::Turns::emptied))]
+    fn take_out(&mut self, alloc: Global, place: usize) -> Taken
+        requires node { place < length self.old.world.nodes }
+        requires rows { place < length self.old.tables }
+        ensures rest { self.new ≡ emptied self.old place }
+        ensures events { self.new.world.events ≡ self.old.world.events }
+        ensures nodes { length self.new.world.nodes ≡ length self.old.world.nodes }
+        ensures tables { length self.new.tables ≡ length self.old.tables }
+        ensures shown { slice_get self.old.world.nodes place ≡ Some result.shown }
+        ensures rows { slice_get self.old.tables place ≡ Some result.rows }
+    {
+        let shown = replaced(&mut self.nodes, place, nobody(alloc));
+        let rows = replaced(&mut self.tables, place, List::new(alloc));
+        Taken { shown, rows }
+    }
+
+    #[tactic(auto, using(crate::proofs::Held::rows_at, crate::proofs::Held::taken_world, crate::proofs::Held::taken_held))]
+    fn end(&mut self, alloc: Global, ring: &Ring, place: usize, step: Step) -> Result<(), Memory>
+        requires few { self.old.world.events < 2 ^ 64 - 1 }
+        requires held { HasTables ring.now self.old }
+        requires node { place < length self.old.world.nodes }
+        ensures world { OnOk result (self.new.world ≡ steps.ended_at self.old.world place step (slice_get self.old.world.nodes place)) }
+        ensures held { OnOk result (HasTables ring.now self.new) }
+    {
+        let Taken { shown, rows } = self.take_out(alloc, place);
+        let turn = ended(alloc, ring, shown, rows, step)?;
+        self.take_turn(alloc, place, turn)
+    }
+
+    #[tactic(auto, using(crate::proofs::Held::rows_at, crate::proofs::Held::taken_world, crate::proofs::Held::taken_held))]
+    fn go_down(&mut self, alloc: Global, ring: &Ring, place: usize) -> Result<(), Memory>
+        requires few { self.old.world.events < 2 ^ 64 - 1 }
+        requires held { HasTables ring.now self.old }
+        requires node { place < length self.old.world.nodes }
+        ensures world { OnOk result (self.new.world ≡ steps.turn_of ring.now self.old.world place GoDown (slice_get self.old.world.nodes place)) }
+        ensures held { OnOk result (HasTables ring.now self.new) }
+    {
+        let Taken { shown, rows } = self.take_out(alloc, place);
+        let turn = downed(alloc, shown, rows);
+        self.take_turn(alloc, place, turn)
     }
 
     /// Takes the next event, to its end. The ring is the one of `new`. After `Unknown` the replay is as
@@ -66,6 +173,8 @@ impl Replay {
     pub fn finish(&self, alloc: Global) -> Result<World, Memory>
         ensures { IfOk result (λ it. it ≡ self.now.world) }
     {
-        self.world.copy(alloc)
+        let mut world = self.world.copy(alloc)?;
+        world.nodes = joined(alloc, List::new(alloc), self.nodes.as_slice())?;
+        Ok(world)
     }
 }
