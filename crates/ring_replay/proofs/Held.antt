@@ -1,14 +1,19 @@
 -- A replay is one of its ring: at the beginning, and after a turn.
-use Rattle.std.proofs.Common.{◌≡◌, ℕ, List, [], ◌∷◌, length, map, Some, option_map, refl, subst, ap, sym, ◌∙◌}
+use Rattle.std.proofs.Common.{◌≡◌, ℕ, ◌<◌, List, [], ◌∷◌, length, map, Option, None, Some, option_map, refl, subst, ap, sym, ◌∙◌}
 use Rattle.std.specs.Prelude.{slice_get, slice_set}
 use Rattle.std.proofs.lemmas.List.{length-map, map-set, set-set}
-use Rattle.std.proofs.lemmas.Option.{slice_get-map}
+use Rattle.std.proofs.lemmas.Option.{slice_get-map, slice_get_within}
 use Rattle.ring_types.specs.declared.members.Member.{Member}
 use Rattle.ring_types.specs.Rings.{Layout}
 use Rattle.ring_types.specs.Rows.{Tables, rows, empty_tables}
-use Rattle.ring_model.specs.Worlds.{WorldState, first_world, shown, shown_node}
+use Rattle.ring_model.specs.Worlds.{WorldState, Handle, first_world, shown, shown_node}
 use Rattle.ring_model.specs.declared.worlds.Shown.{Shown}
-use Rattle.ring_replay.specs.Steps.{nobody, shown_turned}
+use Rattle.ring_model.specs.Dispatch.{step}
+use Rattle.ring_model.specs.declared.nodes.Soft.{Soft}
+use Rattle.ring_model.specs.declared.effects.Step.{Step}
+use Rattle.ring_model.specs.declared.messages.Input.{Input}
+use Rattle.ring_model.specs.declared.worlds.World.{World}
+use Rattle.ring_replay.specs.Steps.{nobody, shown_turned, shown_passed, shown_ended, shown_handled, ended_at, turn_of, answered}
 use Rattle.ring_replay.specs.Turns.{taken_turn, emptied}
 use Rattle.ring_replay.specs.declared.turns.Turn.{Turn}
 use Rattle.ring_replay.specs.Replays.{ReplayState, IsHeld, HasTables, rows_of}
@@ -63,3 +68,31 @@ turn_held ring r place t held own =
 
 pub taken_held : (ring : Layout) (r : ReplayState) (place : ℕ) (t : Turn) → HasTables ring r → t.rows ≡ rows_of ring t.shown → HasTables ring (taken_turn (emptied r place) place t)
 taken_held ring r place t held own = subst (λ (x : ReplayState). HasTables ring x) (sym (taken_over r place t)) (turn_held ring r place t held own)
+
+-- where a node is, there are its rows
+pub rows_there : (ring : Layout) (r : ReplayState) (place : ℕ) (s : Shown) → slice_get r.world.nodes place ≡ Some s → HasTables ring r → slice_get r.tables place ≡ Some (rows_of ring s)
+rows_there ring r place s node held = rw held (slice_get-map (rows_of ring) r.world.nodes place ∙ ap (option_map (rows_of ring)) node)
+
+-- ---- an input at a place
+pub answered_there : (ring : Layout) (i : Input) (nodes : List Shown) (place : ℕ) (st : Step) → answered ring i (slice_get nodes place) ≡ Some st → place < length nodes
+answered_there ring i nodes place st is = go (slice_get nodes place) refl is
+  where
+    go : (o : Option Shown) → slice_get nodes place ≡ o → answered ring i o ≡ Some st → place < length nodes
+    go None at is = absurd cc
+    go (Some s) at is = slice_get_within nodes place s at
+
+pub turn_answered : (ring : Layout) (v : World) (place : ℕ) (i : Input) (o : Option Shown) (st : Step) → answered ring i o ≡ Some st → turn_of ring v place (Handle i) o ≡ ended_at v place st o
+turn_answered ring v place i None st is = absurd cc
+turn_answered ring v place i (Some s) st is = go s.soft is
+  where
+    go : (f : Option Soft) → option_map (λ (x : Soft). step ring s.node s.durable x i) f ≡ Some st → shown_handled ring v place s i f ≡ shown_ended v place s st
+    go None is = absurd cc
+    go (Some f) is = ap (shown_ended v place s) (some_same _ _ is)
+
+pub turn_unanswered : (ring : Layout) (v : World) (place : ℕ) (i : Input) (o : Option Shown) → answered ring i o ≡ None → turn_of ring v place (Handle i) o ≡ shown_passed v
+turn_unanswered ring v place i None is = refl
+turn_unanswered ring v place i (Some s) is = go s.soft is
+  where
+    go : (f : Option Soft) → option_map (λ (x : Soft). step ring s.node s.durable x i) f ≡ None → shown_handled ring v place s i f ≡ shown_passed v
+    go None is = refl
+    go (Some f) is = absurd cc

@@ -1,5 +1,5 @@
 -- The step of the world as it is shown, where every event goes to its end: nodes and cursors by the places of their members in ring order, counted from 0.
-use Rattle.std.specs.Prelude.{ℕ, zero, suc, ◌==◌, nat_lt, nat_le, Bool, ◌&&◌, List, [], ◌∷◌, ◌++◌, length, map, position, Option, Some, None, slice_get, slice_set, unwrap_or}
+use Rattle.std.specs.Prelude.{ℕ, zero, suc, ◌==◌, nat_lt, nat_le, Bool, ◌&&◌, List, [], ◌∷◌, ◌++◌, length, map, position, Option, Some, None, option_map, slice_get, slice_set, unwrap_or}
 use Rattle.ring_types.specs.declared.members.Member.{Member}
 use Rattle.ring_types.specs.Rings.{Layout, is_member}
 use Rattle.ring_model.specs.Actions.{all_done}
@@ -61,6 +61,11 @@ ended_node s st = record s { durable = all_done s.durable st.plan.actions; soft 
 
 abbrev pub shown_ended : World → ℕ → Shown → Step → World
 shown_ended v place s st = shown_turned v place (ended_node s st) st.plan.messages st.plan.says
+
+-- the step of the node that is there on an input; None where there is none, or it is down
+abbrev pub answered : Layout → Input → Option Shown → Option Step
+answered ring i None = None
+answered ring i (Some s) = option_map (λ (f : Soft). step ring s.node s.durable f i) s.soft
 
 -- the step of the node at that place ended
 abbrev pub ended_at : World → ℕ → Step → Option Shown → World

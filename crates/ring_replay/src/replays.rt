@@ -150,6 +150,113 @@ impl Replay {
         self.take_turn(alloc, place, turn)
     }
 
+    #[tactic(auto, using(crate::proofs::Held::rows_at, crate::proofs::Held::taken_world, crate::proofs::Held::taken_held))]
+    fn come_up(&mut self, alloc: Global, ring: &Ring, place: usize) -> Result<(), Memory>
+        requires few { self.old.world.events < 2 ^ 64 - 1 }
+        requires held { HasTables ring.now self.old }
+        requires node { place < length self.old.world.nodes }
+        ensures world { OnOk result (self.new.world ≡ steps.turn_of ring.now self.old.world place ComeUp (slice_get self.old.world.nodes place)) }
+        ensures held { OnOk result (HasTables ring.now self.new) }
+    {
+        let Taken { shown, rows } = self.take_out(alloc, place);
+        let turn = restarted(alloc, shown, rows)?;
+        self.take_turn(alloc, place, turn)
+    }
+
+    #[tactic(auto, using(crate::proofs::Held::rows_at, crate::proofs::Held::rows_there))]
+    fn answer_at(
+        &self,
+        alloc: Global,
+        ring: &Ring,
+        place: usize,
+        input: &Input,
+    ) -> Result<Option<Step>, Memory>
+        requires held { HasTables ring.now self.now }
+        ensures { IfOk result (λ it. it ≡ steps.answered ring.now input.now (slice_get self.now.world.nodes place)) }
+    {
+        match self.nodes.get(place) {
+            None => Ok(None),
+            Some(shown) => match self.tables.get(place) {
+                None => Ok(None),
+                Some(rows) => answer(alloc, ring, shown, rows, input),
+            },
+        }
+    }
+
+    #[tactic(auto, using(crate::proofs::Held::answered_there, crate::proofs::Held::turn_answered, crate::proofs::Held::turn_unanswered))]
+    fn handle_at(
+        &mut self,
+        alloc: Global,
+        ring: &Ring,
+        place: usize,
+        input: &Input,
+    ) -> Result<(), Memory>
+        requires few { self.old.world.events < 2 ^ 64 - 1 }
+        requires held { HasTables ring.now self.old }
+        ensures world { OnOk result (self.new.world ≡ steps.turn_of ring.now self.old.world place (Handle input.now) (slice_get self.old.world.nodes place)) }
+        ensures held { OnOk result (HasTables ring.now self.new) }
+    {
+        match self.answer_at(alloc, ring, place, input)? {
+            None => {
+                self.pass();
+                Ok(())
+            }
+            Some(step) => self.end(alloc, ring, place, step),
+        }
+    }
+
+    /// Gives an input to a member.
+    fn handle(
+        &mut self,
+        alloc: Global,
+        ring: &Ring,
+        id: NodeId,
+        input: &Input,
+    ) -> Result<(), Memory>
+        requires few { self.old.world.events < 2 ^ 64 - 1 }
+        requires held { HasTables ring.now self.old }
+        ensures world { OnOk result (self.new.world ≡ steps.shown_member_turn ring.now self.old.world id (Handle input.now)) }
+        ensures held { OnOk result (HasTables ring.now self.new) }
+    {
+        match place_of(ring, id) {
+            None => {
+                self.pass();
+                Ok(())
+            }
+            Some(place) => self.handle_at(alloc, ring, place, input),
+        }
+    }
+
+    fn crash(&mut self, alloc: Global, ring: &Ring, id: NodeId) -> Result<(), Memory>
+        requires few { self.old.world.events < 2 ^ 64 - 1 }
+        requires held { HasTables ring.now self.old }
+        ensures world { OnOk result (self.new.world ≡ steps.shown_member_turn ring.now self.old.world id GoDown) }
+        ensures held { OnOk result (HasTables ring.now self.new) }
+    {
+        match place_of(ring, id) {
+            Some(place) if place < self.nodes.len() => self.go_down(alloc, ring, place),
+            _ => {
+                self.pass();
+                Ok(())
+            }
+        }
+    }
+
+    fn restart(&mut self, alloc: Global, ring: &Ring, id: NodeId) -> Result<(), Memory>
+        requires few { self.old.world.events < 2 ^ 64 - 1 }
+        requires held { HasTables ring.now self.old }
+        ensures world { OnOk result (self.new.world ≡ steps.shown_member_turn ring.now self.old.world id ComeUp) }
+        ensures held { OnOk result (HasTables ring.now self.new) }
+    {
+        match place_of(ring, id) {
+            Some(place) if place < self.nodes.len() => self.come_up(alloc, ring, place),
+            _ => {
+                self.pass();
+                Ok(())
+            }
+        }
+    }
+
     /// Takes the next event, to its end. The ring is the one of `new`. After `Unknown` the replay is as
     /// it was; after `Memory` it is given up.
     pub fn event(
