@@ -3,3 +3,4 @@ pub mod Held
 pub mod Law
 pub mod Places
 pub mod Sent
+pub mod Shapes

@@ -257,23 +257,155 @@ impl Replay {
         }
     }
 
+    /// Gives the message of a number to its receiver.
+    fn give(&mut self, alloc: Global, ring: &Ring, number: u64) -> Result<(), Memory>
+        requires few { self.old.world.events < 2 ^ 64 - 1 }
+        requires held { HasTables ring.now self.old }
+        ensures world { OnOk result (self.new.world ≡ steps.shown_given ring.now self.old.world (message_at self.old.world.messages number)) }
+        ensures held { OnOk result (HasTables ring.now self.new) }
+    {
+        match message_at(alloc, self.world.messages.as_slice(), number)? {
+            None => {
+                self.pass();
+                Ok(())
+            }
+            Some(message) => {
+                let to = NodeId(message.to);
+                let input = Input::Deliver(message);
+                self.handle(alloc, ring, to, &input)
+            }
+        }
+    }
+
+    fn cursor(&self, ring: &Ring, id: NodeId) -> u64
+        ensures { result ≡ steps.shown_cursor ring.now self.now.world id }
+    {
+        match place_of(ring, id) {
+            None => 0,
+            Some(place) => match self.world.cursors.get(place) {
+                None => 0,
+                Some(cursor) => *cursor,
+            },
+        }
+    }
+
+    fn next_to(&self, ring: &Ring, id: NodeId) -> Option<u64>
+        ensures { result ≡ steps.shown_next_to ring.now self.now.world id }
+    {
+        let cursor = self.cursor(ring, id);
+        next_to(self.world.messages.as_slice(), id.0, cursor)
+    }
+
+    /// Moves the cursor of a node to the message of a number.
+    fn move_to(&mut self, ring: &Ring, id: NodeId, number: u64)
+        ensures world { self.new.world ≡ steps.shown_moved ring.now self.old.world id number }
+        ensures events { self.new.world.events ≡ self.old.world.events }
+        ensures nodes { self.new.world.nodes ≡ self.old.world.nodes }
+        ensures messages { self.new.world.messages ≡ self.old.world.messages }
+        ensures tables { self.new.tables ≡ self.old.tables }
+    {
+        if let Some(place) = place_of(ring, id)
+            && place < self.world.cursors.len()
+        {
+            self.world.cursors.set(place, number);
+        }
+    }
+
+    fn give_next(&mut self, alloc: Global, ring: &Ring, id: NodeId) -> Result<(), Memory>
+        requires few { self.old.world.events < 2 ^ 64 - 1 }
+        requires held { HasTables ring.now self.old }
+        ensures world { OnOk result (self.new.world ≡ steps.shown_next_given ring.now self.old.world id (steps.shown_next_to ring.now self.old.world id)) }
+        ensures held { OnOk result (HasTables ring.now self.new) }
+    {
+        match self.next_to(ring, id) {
+            None => {
+                self.pass();
+                Ok(())
+            }
+            Some(number) => {
+                self.move_to(ring, id, number);
+                self.give(alloc, ring, number)
+            }
+        }
+    }
+
+    fn skip(&mut self, ring: &Ring, id: NodeId)
+        requires few { self.old.world.events < 2 ^ 64 - 1 }
+        requires held { HasTables ring.now self.old }
+        ensures world { self.new.world ≡ steps.shown_skipped ring.now self.old.world id (steps.shown_next_to ring.now self.old.world id) }
+        ensures held { HasTables ring.now self.new }
+    {
+        if let Some(number) = self.next_to(ring, id) {
+            self.move_to(ring, id, number);
+        }
+        self.pass();
+    }
+
+    /// Messages are given from the list alone.
+    fn give_input(
+        &mut self,
+        alloc: Global,
+        ring: &Ring,
+        id: NodeId,
+        input: &Input,
+    ) -> Result<(), Memory>
+        requires few { self.old.world.events < 2 ^ 64 - 1 }
+        requires held { HasTables ring.now self.old }
+        ensures world { OnOk result (self.new.world ≡ steps.shown_at_node ring.now self.old.world id input.now) }
+        ensures held { OnOk result (HasTables ring.now self.new) }
+    {
+        match input {
+            Input::Deliver(_) => {
+                self.pass();
+                Ok(())
+            }
+            _ => self.handle(alloc, ring, id, input),
+        }
+    }
+
+    #[tactic(auto, unfolding(crate::specs::Steps::shown_step))]
+    fn take_line(&mut self, alloc: Global, ring: &Ring, line: &Line) -> Result<(), Memory>
+        requires few { self.old.world.events < 2 ^ 64 - 1 }
+        requires held { HasTables ring.now self.old }
+        ensures world { OnOk result (self.new.world ≡ steps.shown_step ring.now self.old.world line.now) }
+        ensures held { OnOk result (HasTables ring.now self.new) }
+    {
+        match line {
+            Line::At { node, input } => self.give_input(alloc, ring, *node, input),
+            Line::Give(number) => self.give(alloc, ring, *number),
+            Line::Next(node) => self.give_next(alloc, ring, *node),
+            Line::Skip(node) => {
+                self.skip(ring, *node);
+                Ok(())
+            }
+            Line::Again(node) => {
+                let cursor = self.cursor(ring, *node);
+                self.give(alloc, ring, cursor)
+            }
+            Line::Crash(node) => self.crash(alloc, ring, *node),
+            Line::Restart(node) => self.restart(alloc, ring, *node),
+        }
+    }
+
     /// Takes the next event, to its end. The ring is the one of `new`. After `Unknown` the replay is as
     /// it was; after `Memory` it is given up.
-    pub fn event(
-        &mut self,
-        _alloc: Global,
-        _ring: &Ring,
-        _event: &Event,
-    ) -> Result<(), EventError>
-        requires held { IsHeld _ring.now self.old }
+    pub fn event(&mut self, alloc: Global, ring: &Ring, event: &Event) -> Result<(), EventError>
+        requires held { IsHeld ring.now self.old }
         requires few { self.old.world.events < 2 ^ 64 - 1 }
-        ensures known { (w : WorldState) → self.old.world ≡ shown _ring.now w → Refuses (is_known _ring.now w _event.now.what) result }
-        ensures world { (w : WorldState) → self.old.world ≡ shown _ring.now w → OnOk result (self.new.world ≡ shown _ring.now (world_step _ring.now w _event.now Whole)) }
-        ensures held { OnOk result (IsHeld _ring.now self.new) }
+        ensures known { (w : WorldState) → self.old.world ≡ shown ring.now w → Refuses (is_known ring.now w event.now.what) result }
+        ensures world { (w : WorldState) → self.old.world ≡ shown ring.now w → OnOk result (self.new.world ≡ shown ring.now (world_step ring.now w event.now Whole)) }
+        ensures held { OnOk result (IsHeld ring.now self.new) }
         ensures count { OnOk result (self.new.world.events ≡ self.old.world.events + 1) }
         ensures same { result ≡ Err EventError.Unknown → self.new ≡ self.old }
     {
-        Err(EventError::Memory)
+        ring.law_built();
+        if !is_known(ring, self.world.messages.as_slice(), &event.what) {
+            return Err(EventError::Unknown);
+        }
+        match self.take_line(alloc, ring, &event.what) {
+            Ok(()) => Ok(()),
+            Err(_) => Err(EventError::Memory),
+        }
     }
 
     /// The world after the events so far.
