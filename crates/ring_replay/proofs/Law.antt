@@ -162,8 +162,12 @@ pub step_is : (ring : Layout) (w : WorldState) (e : Event) → IsOnce ring → i
 unfolding world_step
 step_is ring w e once known = line_is ring w e.what once known
 
-pub known_is : (ring : Layout) (w : WorldState) (l : Line) → known_among ring (shown ring w).messages l ≡ is_known ring w l
+known_is : (ring : Layout) (w : WorldState) (l : Line) → known_among ring (shown ring w).messages l ≡ is_known ring w l
 unfolding shown
 known_is ring w (line.At node i) = refl
 known_is ring w (line.Give number) = refl
 known_is ring w _ = refl
+
+-- whether a line is known is seen from the shown world
+pub known_as : (ring : Layout) (v : World) (w : WorldState) (l : Line) (b : Bool) → v ≡ shown ring w → b ≡ known_among ring v.messages l → is_known ring w l ≡ b
+known_as ring v w l b is known = sym (known_is ring w l) ∙ (ap (λ (x : World). known_among ring x.messages l) (sym is) ∙ sym known)

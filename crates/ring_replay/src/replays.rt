@@ -387,6 +387,12 @@ impl Replay {
         }
     }
 
+    fn knows(&self, ring: &Ring, line: &Line) -> bool
+        ensures { result ≡ steps.known_among ring.now self.now.world.messages line.now }
+    {
+        is_known(ring, self.world.messages.as_slice(), line)
+    }
+
     /// Takes the next event, to its end. The ring is the one of `new`. After `Unknown` the replay is as
     /// it was; after `Memory` it is given up.
     pub fn event(&mut self, alloc: Global, ring: &Ring, event: &Event) -> Result<(), EventError>
@@ -399,7 +405,7 @@ impl Replay {
         ensures same { result ≡ Err EventError.Unknown → self.new ≡ self.old }
     {
         ring.law_built();
-        if !is_known(ring, self.world.messages.as_slice(), &event.what) {
+        if !self.knows(ring, &event.what) {
             return Err(EventError::Unknown);
         }
         match self.take_line(alloc, ring, &event.what) {
