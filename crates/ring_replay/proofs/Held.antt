@@ -6,7 +6,7 @@ use Rattle.std.proofs.lemmas.Option.{slice_get-map, slice_get_within}
 use Rattle.ring_types.specs.declared.members.Member.{Member}
 use Rattle.ring_types.specs.Rings.{Layout}
 use Rattle.ring_types.specs.Rows.{Tables, rows, empty_tables}
-use Rattle.ring_model.specs.Worlds.{WorldState, Handle, first_world, shown, shown_node}
+use Rattle.ring_model.specs.Worlds.{Handle, first_world, shown, shown_node}
 use Rattle.ring_model.specs.declared.worlds.Shown.{Shown}
 use Rattle.ring_model.specs.Dispatch.{step}
 use Rattle.ring_model.specs.declared.nodes.Soft.{Soft}

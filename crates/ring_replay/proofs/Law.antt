@@ -1,7 +1,6 @@
 -- The step of the shown world is the model's: what a line makes of the world as it is shown is what it makes of the world, shown.
-use Rattle.std.proofs.Common.{◌≡◌, ℕ, zero, suc, ◌==◌, ◌&&◌, Bool, true, false, List, [], ◌∷◌, ◌++◌, map, Option, Some, None, refl, ap, sym, ◌∙◌, arith, option_map, append-nil}
-use Rattle.std.specs.Prelude.{slice_get, slice_set, unwrap_or}
-use Rattle.std.specs.List.{list_any}
+use Rattle.std.proofs.Common.{◌≡◌, ℕ, ◌==◌, Bool, true, false, List, [], map, Option, Some, None, refl, ap, sym, ◌∙◌, arith, option_map, append-nil}
+use Rattle.std.specs.Prelude.{slice_get, slice_set}
 use Rattle.std.proofs.lemmas.Bool.Decides.{nat_tests}
 use Rattle.std.proofs.lemmas.Option.{slice_get-map}
 use Rattle.ring_types.specs.declared.members.Member.{Member}
@@ -107,7 +106,7 @@ cursor_place ring w id (Some place) is once known =
     let m = only_found (has_id id) ring.members place (only_place id ring.members place is once) in
     let e : m.0.id ≡ id = let t = m.2 in grind (arith, nat_tests) in
     let at : slice_get (map (λ (m : Member). w.cursors m.id) ring.members) place ≡ Some (w.cursors id) =
-        slice_get-map (λ (m : Member). w.cursors m.id) ring.members place ∙ (ap (option_map (λ (m : Member). w.cursors m.id)) m.1 ∙ ap (λ (n : ℕ). Some (w.cursors n)) e) in
+    slice_get-map (λ (m : Member). w.cursors m.id) ring.members place ∙ (ap (option_map (λ (m : Member). w.cursors m.id)) m.1 ∙ ap (λ (n : ℕ). Some (w.cursors n)) e) in
     rw at refl
 
 cursor_is : (ring : Layout) (w : WorldState) (id : ℕ) → IsOnce ring → is_member ring id ≡ true → shown_cursor ring (shown ring w) id ≡ w.cursors id

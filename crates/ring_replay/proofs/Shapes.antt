@@ -1,6 +1,6 @@
 -- What every line leaves of a shown world: one more event, the same members' nodes, and as many cursors.
 use Rattle.std.proofs.Common.{◌≡◌, ℕ, suc, List, [], length, map, Option, None, Some, refl, ap, sym, ◌∙◌}
-use Rattle.std.specs.Prelude.{slice_get, slice_set}
+use Rattle.std.specs.Prelude.{slice_get}
 use Rattle.std.proofs.Math.Seq.{map-set_same}
 use Rattle.std.proofs.lemmas.List.{length-set}
 use Rattle.std.proofs.lemmas.Option.{get_or_from_slice_get}
@@ -16,7 +16,7 @@ use Rattle.ring_model.specs.declared.worlds.Shown.{Shown}
 use Rattle.ring_model.specs.declared.worlds.World.{World}
 use Rattle.ring_model.specs.declared.worlds.Line.{Line}
 use Rattle.ring_model.specs.declared.worlds.Line.TheVariants as line
-use Rattle.ring_replay.specs.Steps.{place_of, ended_node, downed_node, restarted_node, shown_turned, shown_passed, shown_handled, shown_turn, turn_of, turn_at, shown_member_turn, shown_given, shown_next_to, shown_cursor, moved_at, shown_moved, shown_next_given, shown_skipped, shown_at_node, shown_step}
+use Rattle.ring_replay.specs.Steps.{place_of, ended_node, downed_node, restarted_node, shown_turned, shown_passed, shown_handled, shown_turn, turn_of, turn_at, shown_given, shown_next_to, shown_cursor, moved_at, shown_moved, shown_next_given, shown_skipped, shown_at_node, shown_step}
 
 pub record IsAfter (v n : World) : Type 0 where
   pub events : n.events ≡ suc v.events

@@ -1,5 +1,5 @@
 -- A replay: the world as it is shown, and beside each node the rows that its engine has applied.
-use Rattle.std.specs.Prelude.{◌≡◌, ℕ, Bool, true, false, List, length, map, Result, Ok, Err}
+use Rattle.std.specs.Prelude.{◌≡◌, Bool, true, false, List, length, map, Result, Ok, Err}
 use Rattle.ring_types.specs.declared.members.Member.{Member}
 use Rattle.ring_types.specs.Rings.{Layout}
 use Rattle.ring_types.specs.Rows.{Tables}

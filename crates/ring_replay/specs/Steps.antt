@@ -1,5 +1,5 @@
 -- The step of the world as it is shown, where every event goes to its end: nodes and cursors by the places of their members in ring order, counted from 0.
-use Rattle.std.specs.Prelude.{ℕ, zero, suc, ◌==◌, nat_lt, nat_le, Bool, ◌&&◌, List, [], ◌∷◌, ◌++◌, length, map, position, Option, Some, None, option_map, slice_get, slice_set, unwrap_or}
+use Rattle.std.specs.Prelude.{ℕ, suc, ◌==◌, nat_lt, nat_le, Bool, ◌&&◌, List, [], ◌++◌, length, map, position, Option, Some, None, option_map, slice_get, slice_set, unwrap_or}
 use Rattle.ring_types.specs.declared.members.Member.{Member}
 use Rattle.ring_types.specs.Rings.{Layout, is_member}
 use Rattle.ring_model.specs.Actions.{all_done}
@@ -7,7 +7,6 @@ use Rattle.ring_model.specs.Nodes.{Node, recover, fresh_soft, empty_durable}
 use Rattle.ring_model.specs.Dispatch.{step}
 use Rattle.ring_model.specs.Worlds.{Task, Handle, GoDown, ComeUp, grown, said_in, message_at, next_from}
 use Rattle.ring_model.specs.Runs.{is_whole_input}
-use Rattle.ring_model.specs.declared.nodes.Durable.{Durable}
 use Rattle.ring_model.specs.declared.nodes.Soft.{Soft}
 use Rattle.ring_model.specs.declared.effects.Step.{Step}
 use Rattle.ring_model.specs.declared.effects.Say.{Say}
@@ -16,7 +15,6 @@ use Rattle.ring_model.specs.declared.messages.Input.{Input}
 use Rattle.ring_model.specs.declared.messages.Input.TheVariants as input
 use Rattle.ring_model.specs.declared.worlds.Shown.{Shown}
 use Rattle.ring_model.specs.declared.worlds.World.{World}
-use Rattle.ring_model.specs.declared.worlds.Event.{Event}
 use Rattle.ring_model.specs.declared.worlds.Line.{Line}
 use Rattle.ring_model.specs.declared.worlds.Line.TheVariants as line
 

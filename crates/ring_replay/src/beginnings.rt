@@ -55,11 +55,7 @@ fn reach(shown: &Shown) -> u64
 }
 
 /// The chosen sequence after an event of this node.
-pub(crate) fn grow(
-    alloc: Global,
-    chosen: &mut List<Entry>,
-    shown: &Shown,
-) -> Result<(), Memory>
+pub(crate) fn grow(alloc: Global, chosen: &mut List<Entry>, shown: &Shown) -> Result<(), Memory>
     ensures { OnOk result (chosen.new ≡ spec.grown chosen.old (node_of shown.now)) }
 {
     let reach = reach(shown);

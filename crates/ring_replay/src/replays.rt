@@ -100,7 +100,13 @@ impl Replay {
         } = turn;
         let event = self.world.events + 1;
         self.world.events = event;
-        add_said(alloc, &mut self.world.said, event, shown.node, says.as_slice())?;
+        add_said(
+            alloc,
+            &mut self.world.said,
+            event,
+            shown.node,
+            says.as_slice(),
+        )?;
         self.world.messages.append(messages)?;
         grow(alloc, &mut self.world.chosen, &shown)?;
         self.nodes[place] = shown;

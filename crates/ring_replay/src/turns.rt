@@ -39,15 +39,7 @@ pub(crate) fn answer(
 {
     match &shown.soft {
         None => Ok(None),
-        Some(soft) => Ok(Some(step(
-            alloc,
-            ring,
-            shown.node,
-            &shown.durable,
-            soft,
-            rows,
-            input,
-        )?)),
+        Some(soft) => Ok(Some(step(alloc, ring, shown.node, &shown.durable, soft, rows, input)?)),
     }
 }
 

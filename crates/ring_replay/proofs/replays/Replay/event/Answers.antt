@@ -1,9 +1,6 @@
-use Rattle.std.proofs.Common.{◌≡◌, ◌+◌, Bool, true, false, refl, ap, sym, ◌∙◌, add-one}
-use Rattle.ring_model.specs.Worlds.{WorldState, Whole, world_step, shown}
-use Rattle.ring_model.specs.Runs.{is_known}
-use Rattle.ring_model.specs.declared.messages.Message.{Message}
+use Rattle.std.proofs.Common.{true, false, ap, sym, ◌∙◌, add-one}
 use Rattle.ring_model.specs.declared.worlds.World.{World}
-use Rattle.ring_replay.specs.Steps.{known_among, shown_step}
+use Rattle.ring_replay.specs.Steps.{shown_step}
 use Rattle.ring_replay.proofs.Law.{step_is, known_as}
 use Rattle.ring_replay.proofs.Shapes.{line_shape}
 use Rattle.ring_replay.proofs.replays.Replay.event.Goals as goal
