@@ -1,0 +1,6 @@
+pub mod Applying
+pub mod Held
+pub mod Law
+pub mod Places
+pub mod Sent
+pub mod Shapes

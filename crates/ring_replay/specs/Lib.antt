@@ -1,1 +1,4 @@
+pub mod Applying
 pub mod Replays
+pub mod Steps
+pub mod Turns

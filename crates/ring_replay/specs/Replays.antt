@@ -1,5 +1,5 @@
 -- A replay: the world as it is shown, and beside each node the rows that its engine has applied.
-use Rattle.std.specs.Prelude.{◌≡◌, ℕ, Bool, true, false, List, length, map, Result, Ok, Err}
+use Rattle.std.specs.Prelude.{◌≡◌, Bool, true, false, List, length, map, Result, Ok, Err}
 use Rattle.ring_types.specs.declared.members.Member.{Member}
 use Rattle.ring_types.specs.Rings.{Layout}
 use Rattle.ring_types.specs.Rows.{Tables}
@@ -15,6 +15,10 @@ pub record ReplayState : Type 0 where
 
 abbrev pub rows_of : Layout → Shown → Tables
 rows_of ring s = committed_rows ring s.durable
+
+-- the tables are the rows that each node's engine has applied
+abbrev pub HasTables : Layout → ReplayState → Type 0
+HasTables ring r = r.tables ≡ map (rows_of ring) r.world.nodes
 
 -- the replay is one of this ring: its nodes and cursors are those of the members, in ring order, and the tables are the rows that each node's engine has applied
 pub record IsHeld (ring : Layout) (r : ReplayState) : Type 0 where

@@ -5,6 +5,10 @@
 //! of the world what `world_step` makes of it.
 #![tactic(auto)]
 
+mod beginnings;
+mod engines;
+mod messages;
 mod replays;
+mod turns;
 
 pub use replays::{EventError, Replay};

@@ -1,12 +1,18 @@
-ghost use Rattle.std.specs.Prelude.{◌≡◌, ℕ, ◌+◌, ◌-◌, ◌^◌, ◌<◌, IfOk, OnOk, Err};
-ghost use Rattle.ring_model.specs.Worlds.{WorldState, Whole, world_step, first_world, shown};
+ghost use Rattle.std.specs.Prelude.{◌≡◌, ℕ, ◌+◌, ◌-◌, ◌^◌, ◌<◌, IfOk, OnOk, Err, Some, length, slice_get};
+ghost use Rattle.ring_model.specs.Worlds.{WorldState, Whole, Handle, GoDown, ComeUp, world_step, first_world, shown, message_at, next_from};
 ghost use Rattle.ring_model.specs.Runs.{is_known};
-ghost use Rattle.ring_replay.specs.Replays.{IsHeld, Refuses};
+ghost use Rattle.ring_model.specs.declared.messages.Message.{Message};
+ghost use Rattle.ring_replay.specs.Replays.{ReplayState, IsHeld, HasTables, Refuses};
+ghost use Rattle.ring_replay.specs.Turns.{taken_turn, emptied};
+ghost use Rattle.ring_replay.specs.Steps as steps;
 
-use ring_model::{Event, World};
-use ring_plain::Tables;
-use ring_types::{Duplicate, List, Memory, Ring};
-use std::alloc::{AllocError, Global};
+use crate::beginnings::{first_cursors, first_nodes, first_tables, grow, nobody, replaced};
+use crate::messages::{add_said, is_known, message_at, next_to, place_of};
+use crate::turns::{Turn, answer, downed, ended, restarted};
+use ring_model::{Event, Input, Line, Message, Shown, Step, World};
+use ring_plain::{Tables, joined};
+use ring_types::{Duplicate, List, Memory, NodeId, Ring};
+use std::alloc::Global;
 use std::marker::Model;
 
 /// Why an event was not taken.
@@ -20,10 +26,14 @@ pub enum EventError {
 }
 
 /// A ring's run: the world after the events so far.
+///
+/// The list of nodes of `world` stands empty: they are in `nodes`, so that a turn may take one out
+/// and change it in place. `tables` has for each node the rows that its engine has applied.
 #[derive(Drop)]
 pub struct Replay {
     world: World,
-    tables: List<Tables>,
+    nodes: Vec<Shown>,
+    tables: Vec<Tables>,
 }
 
 impl Model for Replay {
@@ -31,41 +41,391 @@ impl Model for Replay {
 
     ghost Value = { ReplayState };
 
-    ghost view = { λ r. record { world = r.world; tables = r.tables } };
+    ghost view = { λ r. record { world = record r.world { nodes = r.nodes.items }; tables = r.tables.items } };
+}
+
+/// A node that was taken out for its turn, with the rows that its engine has applied.
+#[derive(Drop)]
+struct Taken {
+    shown: Shown,
+    rows: Tables,
 }
 
 impl Replay {
     /// The world before the first event: every node runs on the empty durable part.
-    pub fn new(_alloc: Global, _ring: &Ring) -> Result<Replay, Memory>
-        ensures world { IfOk result (λ it. it.world ≡ shown _ring.now first_world) }
-        ensures held { IfOk result (λ it. IsHeld _ring.now it) }
+    #[tactic(auto, unfolding(ring_model::specs::Worlds::shown))]
+    pub fn new(alloc: Global, ring: &Ring) -> Result<Replay, Memory>
+        ensures world { IfOk result (λ it. it.world ≡ shown ring.now first_world) }
+        ensures held { IfOk result (λ it. IsHeld ring.now it) }
     {
-        Err(AllocError)
+        let nodes = first_nodes(alloc, ring)?;
+        let cursors = first_cursors(alloc, ring)?;
+        let tables = first_tables(alloc, ring)?;
+        Ok(Replay {
+            world: World {
+                events: 0,
+                nodes: List::new(alloc),
+                messages: List::new(alloc),
+                cursors,
+                said: List::new(alloc),
+                kept: List::new(alloc),
+                chosen: List::new(alloc),
+            },
+            nodes,
+            tables,
+        })
+    }
+
+    fn pass(&mut self)
+        requires few { self.old.world.events < 2 ^ 64 - 1 }
+        ensures world { self.new.world ≡ steps.shown_passed self.old.world }
+        ensures tables { self.new.tables ≡ self.old.tables }
+    {
+        self.world.events += 1;
+    }
+
+    /// The node at a place becomes, sends and says what its turn made.
+    #[tactic(auto, unfolding(crate::specs::Turns::taken_turn, crate::specs::Steps::shown_turned))]
+    fn take_turn(&mut self, alloc: Global, place: usize, turn: Turn) -> Result<(), Memory>
+        requires few { self.old.world.events < 2 ^ 64 - 1 }
+        requires node { place < length self.old.world.nodes }
+        requires rows { place < length self.old.tables }
+        ensures { OnOk result (self.new ≡ taken_turn self.old place turn) }
+    {
+        let Turn {
+            shown,
+            rows,
+            messages,
+            says,
+        } = turn;
+        let event = self.world.events + 1;
+        self.world.events = event;
+        add_said(
+            alloc,
+            &mut self.world.said,
+            event,
+            shown.node,
+            says.as_slice(),
+        )?;
+        self.world.messages.append(messages)?;
+        grow(alloc, &mut self.world.chosen, &shown)?;
+        self.nodes[place] = shown;
+        self.tables[place] = rows;
+        Ok(())
+    }
+
+    #[tactic(auto, unfolding(crate::specs::Turns::emptied))]
+    fn take_out(&mut self, alloc: Global, place: usize) -> Taken
+        requires node { place < length self.old.world.nodes }
+        requires rows { place < length self.old.tables }
+        ensures rest { self.new ≡ emptied self.old place }
+        ensures events { self.new.world.events ≡ self.old.world.events }
+        ensures nodes { length self.new.world.nodes ≡ length self.old.world.nodes }
+        ensures tables { length self.new.tables ≡ length self.old.tables }
+        ensures shown { slice_get self.old.world.nodes place ≡ Some result.shown }
+        ensures rows { slice_get self.old.tables place ≡ Some result.rows }
+    {
+        let shown = replaced(&mut self.nodes, place, nobody(alloc));
+        let rows = replaced(&mut self.tables, place, List::new(alloc));
+        Taken { shown, rows }
+    }
+
+    #[tactic(auto, using(crate::proofs::Held::rows_at, crate::proofs::Held::taken_world, crate::proofs::Held::taken_held))]
+    fn end(&mut self, alloc: Global, ring: &Ring, place: usize, step: Step) -> Result<(), Memory>
+        requires few { self.old.world.events < 2 ^ 64 - 1 }
+        requires held { HasTables ring.now self.old }
+        requires node { place < length self.old.world.nodes }
+        ensures world { OnOk result (self.new.world ≡ steps.ended_at self.old.world place step (slice_get self.old.world.nodes place)) }
+        ensures held { OnOk result (HasTables ring.now self.new) }
+    {
+        let Taken { shown, rows } = self.take_out(alloc, place);
+        let turn = ended(alloc, ring, shown, rows, step)?;
+        self.take_turn(alloc, place, turn)
+    }
+
+    #[tactic(auto, using(crate::proofs::Held::rows_at, crate::proofs::Held::taken_world, crate::proofs::Held::taken_held))]
+    fn go_down(&mut self, alloc: Global, ring: &Ring, place: usize) -> Result<(), Memory>
+        requires few { self.old.world.events < 2 ^ 64 - 1 }
+        requires held { HasTables ring.now self.old }
+        requires node { place < length self.old.world.nodes }
+        ensures world { OnOk result (self.new.world ≡ steps.turn_of ring.now self.old.world place GoDown (slice_get self.old.world.nodes place)) }
+        ensures held { OnOk result (HasTables ring.now self.new) }
+    {
+        let Taken { shown, rows } = self.take_out(alloc, place);
+        let turn = downed(alloc, shown, rows);
+        self.take_turn(alloc, place, turn)
+    }
+
+    #[tactic(auto, using(crate::proofs::Held::rows_at, crate::proofs::Held::taken_world, crate::proofs::Held::taken_held))]
+    fn come_up(&mut self, alloc: Global, ring: &Ring, place: usize) -> Result<(), Memory>
+        requires few { self.old.world.events < 2 ^ 64 - 1 }
+        requires held { HasTables ring.now self.old }
+        requires node { place < length self.old.world.nodes }
+        ensures world { OnOk result (self.new.world ≡ steps.turn_of ring.now self.old.world place ComeUp (slice_get self.old.world.nodes place)) }
+        ensures held { OnOk result (HasTables ring.now self.new) }
+    {
+        let Taken { shown, rows } = self.take_out(alloc, place);
+        let turn = restarted(alloc, shown, rows)?;
+        self.take_turn(alloc, place, turn)
+    }
+
+    #[tactic(auto, using(crate::proofs::Held::rows_at, crate::proofs::Held::rows_there))]
+    fn answer_at(
+        &self,
+        alloc: Global,
+        ring: &Ring,
+        place: usize,
+        input: &Input,
+    ) -> Result<Option<Step>, Memory>
+        requires held { HasTables ring.now self.now }
+        ensures { IfOk result (λ it. it ≡ steps.answered ring.now input.now (slice_get self.now.world.nodes place)) }
+    {
+        match self.nodes.get(place) {
+            None => Ok(None),
+            Some(shown) => match self.tables.get(place) {
+                None => Ok(None),
+                Some(rows) => answer(alloc, ring, shown, rows, input),
+            },
+        }
+    }
+
+    #[tactic(auto, using(crate::proofs::Held::answered_there, crate::proofs::Held::turn_answered, crate::proofs::Held::turn_unanswered))]
+    fn handle_at(
+        &mut self,
+        alloc: Global,
+        ring: &Ring,
+        place: usize,
+        input: &Input,
+    ) -> Result<(), Memory>
+        requires few { self.old.world.events < 2 ^ 64 - 1 }
+        requires held { HasTables ring.now self.old }
+        ensures world { OnOk result (self.new.world ≡ steps.turn_of ring.now self.old.world place (Handle input.now) (slice_get self.old.world.nodes place)) }
+        ensures held { OnOk result (HasTables ring.now self.new) }
+    {
+        match self.answer_at(alloc, ring, place, input)? {
+            None => {
+                self.pass();
+                Ok(())
+            }
+            Some(step) => self.end(alloc, ring, place, step),
+        }
+    }
+
+    /// Gives an input to a member.
+    fn handle(
+        &mut self,
+        alloc: Global,
+        ring: &Ring,
+        id: NodeId,
+        input: &Input,
+    ) -> Result<(), Memory>
+        requires few { self.old.world.events < 2 ^ 64 - 1 }
+        requires held { HasTables ring.now self.old }
+        ensures world { OnOk result (self.new.world ≡ steps.shown_member_turn ring.now self.old.world id (Handle input.now)) }
+        ensures held { OnOk result (HasTables ring.now self.new) }
+    {
+        match place_of(ring, id) {
+            None => {
+                self.pass();
+                Ok(())
+            }
+            Some(place) => self.handle_at(alloc, ring, place, input),
+        }
+    }
+
+    fn crash(&mut self, alloc: Global, ring: &Ring, id: NodeId) -> Result<(), Memory>
+        requires few { self.old.world.events < 2 ^ 64 - 1 }
+        requires held { HasTables ring.now self.old }
+        ensures world { OnOk result (self.new.world ≡ steps.shown_member_turn ring.now self.old.world id GoDown) }
+        ensures held { OnOk result (HasTables ring.now self.new) }
+    {
+        match place_of(ring, id) {
+            Some(place) if place < self.nodes.len() => self.go_down(alloc, ring, place),
+            _ => {
+                self.pass();
+                Ok(())
+            }
+        }
+    }
+
+    fn restart(&mut self, alloc: Global, ring: &Ring, id: NodeId) -> Result<(), Memory>
+        requires few { self.old.world.events < 2 ^ 64 - 1 }
+        requires held { HasTables ring.now self.old }
+        ensures world { OnOk result (self.new.world ≡ steps.shown_member_turn ring.now self.old.world id ComeUp) }
+        ensures held { OnOk result (HasTables ring.now self.new) }
+    {
+        match place_of(ring, id) {
+            Some(place) if place < self.nodes.len() => self.come_up(alloc, ring, place),
+            _ => {
+                self.pass();
+                Ok(())
+            }
+        }
+    }
+
+    /// Gives the message of a number to its receiver.
+    fn give(&mut self, alloc: Global, ring: &Ring, number: u64) -> Result<(), Memory>
+        requires few { self.old.world.events < 2 ^ 64 - 1 }
+        requires held { HasTables ring.now self.old }
+        ensures world { OnOk result (self.new.world ≡ steps.shown_given ring.now self.old.world (message_at self.old.world.messages number)) }
+        ensures held { OnOk result (HasTables ring.now self.new) }
+    {
+        match message_at(alloc, self.world.messages.as_slice(), number)? {
+            None => {
+                self.pass();
+                Ok(())
+            }
+            Some(message) => {
+                let to = NodeId(message.to);
+                let input = Input::Deliver(message);
+                self.handle(alloc, ring, to, &input)
+            }
+        }
+    }
+
+    fn cursor(&self, ring: &Ring, id: NodeId) -> u64
+        ensures { result ≡ steps.shown_cursor ring.now self.now.world id }
+    {
+        match place_of(ring, id) {
+            None => 0,
+            Some(place) => match self.world.cursors.get(place) {
+                None => 0,
+                Some(cursor) => *cursor,
+            },
+        }
+    }
+
+    fn next_to(&self, ring: &Ring, id: NodeId) -> Option<u64>
+        ensures { result ≡ steps.shown_next_to ring.now self.now.world id }
+    {
+        let cursor = self.cursor(ring, id);
+        next_to(self.world.messages.as_slice(), id.0, cursor)
+    }
+
+    /// Moves the cursor of a node to the message of a number.
+    fn move_to(&mut self, ring: &Ring, id: NodeId, number: u64)
+        ensures world { self.new.world ≡ steps.shown_moved ring.now self.old.world id number }
+        ensures events { self.new.world.events ≡ self.old.world.events }
+        ensures nodes { self.new.world.nodes ≡ self.old.world.nodes }
+        ensures messages { self.new.world.messages ≡ self.old.world.messages }
+        ensures tables { self.new.tables ≡ self.old.tables }
+    {
+        if let Some(place) = place_of(ring, id)
+            && place < self.world.cursors.len()
+        {
+            self.world.cursors.set(place, number);
+        }
+    }
+
+    fn give_next(&mut self, alloc: Global, ring: &Ring, id: NodeId) -> Result<(), Memory>
+        requires few { self.old.world.events < 2 ^ 64 - 1 }
+        requires held { HasTables ring.now self.old }
+        ensures world { OnOk result (self.new.world ≡ steps.shown_next_given ring.now self.old.world id (steps.shown_next_to ring.now self.old.world id)) }
+        ensures held { OnOk result (HasTables ring.now self.new) }
+    {
+        match self.next_to(ring, id) {
+            None => {
+                self.pass();
+                Ok(())
+            }
+            Some(number) => {
+                self.move_to(ring, id, number);
+                self.give(alloc, ring, number)
+            }
+        }
+    }
+
+    fn skip(&mut self, ring: &Ring, id: NodeId)
+        requires few { self.old.world.events < 2 ^ 64 - 1 }
+        requires held { HasTables ring.now self.old }
+        ensures world { self.new.world ≡ steps.shown_skipped ring.now self.old.world id (steps.shown_next_to ring.now self.old.world id) }
+        ensures held { HasTables ring.now self.new }
+    {
+        if let Some(number) = self.next_to(ring, id) {
+            self.move_to(ring, id, number);
+        }
+        self.pass();
+    }
+
+    /// Messages are given from the list alone.
+    fn give_input(
+        &mut self,
+        alloc: Global,
+        ring: &Ring,
+        id: NodeId,
+        input: &Input,
+    ) -> Result<(), Memory>
+        requires few { self.old.world.events < 2 ^ 64 - 1 }
+        requires held { HasTables ring.now self.old }
+        ensures world { OnOk result (self.new.world ≡ steps.shown_at_node ring.now self.old.world id input.now) }
+        ensures held { OnOk result (HasTables ring.now self.new) }
+    {
+        match input {
+            Input::Deliver(_) => {
+                self.pass();
+                Ok(())
+            }
+            _ => self.handle(alloc, ring, id, input),
+        }
+    }
+
+    #[tactic(auto, unfolding(crate::specs::Steps::shown_step))]
+    fn take_line(&mut self, alloc: Global, ring: &Ring, line: &Line) -> Result<(), Memory>
+        requires few { self.old.world.events < 2 ^ 64 - 1 }
+        requires held { HasTables ring.now self.old }
+        ensures world { OnOk result (self.new.world ≡ steps.shown_step ring.now self.old.world line.now) }
+        ensures held { OnOk result (HasTables ring.now self.new) }
+    {
+        match line {
+            Line::At { node, input } => self.give_input(alloc, ring, *node, input),
+            Line::Give(number) => self.give(alloc, ring, *number),
+            Line::Next(node) => self.give_next(alloc, ring, *node),
+            Line::Skip(node) => {
+                self.skip(ring, *node);
+                Ok(())
+            }
+            Line::Again(node) => {
+                let cursor = self.cursor(ring, *node);
+                self.give(alloc, ring, cursor)
+            }
+            Line::Crash(node) => self.crash(alloc, ring, *node),
+            Line::Restart(node) => self.restart(alloc, ring, *node),
+        }
+    }
+
+    fn knows(&self, ring: &Ring, line: &Line) -> bool
+        ensures { result ≡ steps.known_among ring.now self.now.world.messages line.now }
+    {
+        is_known(ring, self.world.messages.as_slice(), line)
     }
 
     /// Takes the next event, to its end. The ring is the one of `new`. After `Unknown` the replay is as
     /// it was; after `Memory` it is given up.
-    pub fn event(
-        &mut self,
-        _alloc: Global,
-        _ring: &Ring,
-        _event: &Event,
-    ) -> Result<(), EventError>
-        requires held { IsHeld _ring.now self.old }
+    pub fn event(&mut self, alloc: Global, ring: &Ring, event: &Event) -> Result<(), EventError>
+        requires held { IsHeld ring.now self.old }
         requires few { self.old.world.events < 2 ^ 64 - 1 }
-        ensures known { (w : WorldState) → self.old.world ≡ shown _ring.now w → Refuses (is_known _ring.now w _event.now.what) result }
-        ensures world { (w : WorldState) → self.old.world ≡ shown _ring.now w → OnOk result (self.new.world ≡ shown _ring.now (world_step _ring.now w _event.now Whole)) }
-        ensures held { OnOk result (IsHeld _ring.now self.new) }
+        ensures known { (w : WorldState) → self.old.world ≡ shown ring.now w → Refuses (is_known ring.now w event.now.what) result }
+        ensures world { (w : WorldState) → self.old.world ≡ shown ring.now w → OnOk result (self.new.world ≡ shown ring.now (world_step ring.now w event.now Whole)) }
+        ensures held { OnOk result (IsHeld ring.now self.new) }
         ensures count { OnOk result (self.new.world.events ≡ self.old.world.events + 1) }
         ensures same { result ≡ Err EventError.Unknown → self.new ≡ self.old }
     {
-        Err(EventError::Memory)
+        ring.law_built();
+        if !self.knows(ring, &event.what) {
+            return Err(EventError::Unknown);
+        }
+        match self.take_line(alloc, ring, &event.what) {
+            Ok(()) => Ok(()),
+            Err(_) => Err(EventError::Memory),
+        }
     }
 
     /// The world after the events so far.
     pub fn finish(&self, alloc: Global) -> Result<World, Memory>
         ensures { IfOk result (λ it. it ≡ self.now.world) }
     {
-        self.world.copy(alloc)
+        let mut world = self.world.copy(alloc)?;
+        world.nodes = joined(alloc, List::new(alloc), self.nodes.as_slice())?;
+        Ok(world)
     }
 }

@@ -1,0 +1,35 @@
+use Rattle.std.proofs.Common.{true, false, ap, sym, ◌∙◌, add-one}
+use Rattle.ring_model.specs.declared.worlds.World.{World}
+use Rattle.ring_replay.specs.Steps.{shown_step}
+use Rattle.ring_replay.proofs.Law.{step_is, known_as}
+use Rattle.ring_replay.proofs.Shapes.{line_shape}
+use Rattle.ring_replay.proofs.replays.Replay.event.Goals as goal
+
+pub returns-then-not-knows-clause-known : goal.returns-then-not-knows-clause-known
+returns-then-not-knows-clause-known c = λ w is.
+    known_as c.args.ring.now c.args.self.now.world w c.args.event.now.what false is (sym c.if-not-knows.true ∙ c.knows.ensures)
+
+pub returns-in-Ok-clause-known : goal.returns-in-Ok-clause-known
+returns-in-Ok-clause-known c = λ w is.
+    known_as c.args.ring.now c.args.self.now.world w c.args.event.now.what true is (sym c.if-not-knows.false ∙ c.knows.ensures)
+
+pub returns-in-Ok-clause-world : goal.returns-in-Ok-clause-world
+returns-in-Ok-clause-world c = λ w is.
+    let ring = c.args.ring.now in
+    let l = c.args.event.now.what in
+    let known = known_as ring c.args.self.now.world w l true is (sym c.if-not-knows.false ∙ c.knows.ensures) in
+    c.in-Ok.ensures.world ∙ (ap (λ (v : World). shown_step ring v l) is ∙ step_is ring w c.args.event.now c.law_built.ensures.numbers_once known)
+
+pub returns-in-Ok-clause-held : goal.returns-in-Ok-clause-held
+returns-in-Ok-clause-held c =
+    let s = line_shape c.args.ring.now c.args.self.now.world c.args.event.now.what in
+    let e = c.in-Ok.ensures.world in
+    record {
+      nodes = rw e (s.nodes ∙ c.requires.held.nodes);
+      cursors = rw e (s.cursors ∙ c.requires.held.cursors);
+      tables = c.in-Ok.ensures.held;
+    }
+
+pub returns-in-Ok-clause-count : goal.returns-in-Ok-clause-count
+returns-in-Ok-clause-count c =
+    rw (c.in-Ok.ensures.world, add-one) (line_shape c.args.ring.now c.args.self.now.world c.args.event.now.what).events
