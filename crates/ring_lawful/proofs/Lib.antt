@@ -6,3 +6,5 @@ pub mod Engine
 pub mod EngineSteps
 pub mod EngineRules
 pub mod EngineAppend
+pub mod EngineDispatch
+pub mod Prepared
