@@ -1,0 +1,178 @@
+-- In every world of every run the prepared pairs are those of a stretch above the applied count, and a logtailer has none.
+use Rattle.std.proofs.Common.{◌≡◌, ℕ, ◌≤◌, ◌==◌, ◌&&◌, [], ◌∷◌, ◌++◌, ◌∙◌, if◌then◌else◌, Bool, List, None, Option, Some, ap, arith, false, length, not, refl, subst, suc, sym, take, true, zero}
+use Rattle.std.proofs.lemmas.Bool.Decides.{nat_tests}
+use Rattle.std.specs.Prelude.{filter, map}
+use Rattle.std.specs.List.{Contains, list_any}
+use Rattle.ring_types.specs.declared.entries.Entry.{Entry}
+use Rattle.ring_types.specs.declared.entries.Opid.{Opid}
+use Rattle.ring_types.specs.declared.entries.Pair.{Pair}
+use Rattle.ring_types.specs.Rings.{Layout, runs_engine}
+use Rattle.ring_types.specs.Logs.{has_opid, same_opid}
+use Rattle.ring_model.specs.declared.effects.Action.{Action}
+use Rattle.ring_model.specs.declared.effects.Action.TheVariants as action
+use Rattle.ring_model.specs.declared.messages.Input.{Input}
+use Rattle.ring_model.specs.declared.messages.Message.{Message}
+use Rattle.ring_model.specs.declared.nodes.Durable.{Durable}
+use Rattle.ring_model.specs.declared.nodes.Soft.{Soft}
+use Rattle.ring_model.specs.Actions.{all_done, done, entries_between, pairs_in}
+use Rattle.ring_model.specs.Dispatch.{step}
+use Rattle.ring_model.specs.Nodes.{ArePairsAbove, empty_durable, fresh_soft, is_ready, kept_pairs, recover, stray_opids}
+use Rattle.ring_model.specs.Runs.{Move, world}
+use Rattle.ring_model.specs.Safety.{PreparedAgrees}
+use Rattle.ring_model.specs.Worlds.{restart_actions}
+use Rattle.ring_model.proofs.Dispatch.{IsGiven, step_row}
+use Rattle.ring_model.proofs.Invariant.{History, IsHistory, IsNode, IsRunning}
+use Rattle.ring_model.proofs.Turns.{seal_within}
+use Rattle.ring_lawful.specs.Lawful.{EveryRunPreparesInOrder, KeepsPairs, RunsEngine, EveryNodeKeepsPairs}
+use Rattle.ring_lawful.proofs.Along.{Along, along_cut, along_end}
+use Rattle.ring_lawful.proofs.Carry.{Holds, IsKeptByAll, StepKeeps, holds_always}
+use Rattle.ring_lawful.proofs.Engine.{Clean, HasPairs, clean_above, clean_has, clean_kept}
+use Rattle.ring_lawful.proofs.EngineAppend.{Fits}
+use Rattle.ring_lawful.proofs.EngineDispatch.{row_fits, step_both}
+use Rattle.ring_lawful.proofs.EngineRules.{AllTail, Both, IsTail}
+use Rattle.ring_lawful.proofs.EngineSteps.{EngineRuns, EngineStep, stands_down}
+use Rattle.ring_lawful.proofs.Order.{placed_in}
+use Rattle.ring_lawful.proofs.Pairs.{none_between}
+
+abbrev IsEmpty : Durable → Type 0
+IsEmpty d = (d.applied ≡ 0) × (d.prepared ≡ [])
+
+record Engine (ring : Layout) (id : ℕ) (d : Durable) : Type 0 where
+  engine : runs_engine ring id ≡ true → HasPairs d
+  tailer : runs_engine ring id ≡ false → IsEmpty d
+
+abbrev Running : Layout → ℕ → Durable → Soft → Type 0
+Running ring id d s = runs_engine ring id ≡ true → EngineRuns d s
+
+abbrev Nothing : Message → Type 0
+Nothing m = Unit {0}
+
+-- ---- a logtailer
+tail_one : (d : Durable) (a : Action) → IsTail a → IsEmpty d → IsEmpty (done d a)
+tail_one d (action.SetTerm term) t x = x
+tail_one d (action.Vote vote floor) t x = x
+tail_one d (action.Append entries) t x = x
+tail_one d (action.Truncate position) t x = x
+tail_one d (action.Prepare pair) t x = absurd t
+tail_one d (action.Commit position) t x = absurd t
+tail_one d (action.RollBackAfter position) t x = absurd t
+tail_one d (action.DropPairs opids) t x = absurd t
+
+tail_along : (d : Durable) (actions : List Action) → AllTail actions → IsEmpty d → Along IsEmpty d actions
+tail_along d [] t x = x
+tail_along d (a ∷ actions) t x = (x, tail_along (done d a) actions t.1 (tail_one d a t.0 x))
+
+-- ---- recovery
+recovered : (ring : Layout) (h : History) (id : ℕ) (d : Durable) → IsNode ring h id d → HasPairs d → (k : ℕ) × Clean (recover d) k
+recovered ring h id d n x = (x.0, record { placed = placed_in ring h d.term d.log n.log; applied = seal_within ring h d.term d.applied d.log n.applied; inside = x.2; prepared = x.3 })
+
+same_is : (a b : Opid) → same_opid a b ≡ true → (log : List Entry) → has_opid log a ≡ has_opid log b
+same_is a b is [] = refl
+same_is a b is (e ∷ log) =
+    let one : same_opid e.opid a ≡ same_opid e.opid b = grind (arith, nat_tests, is) in
+    let rest = same_is a b is log in rw (one, rest) refl
+
+stray_not : (log : List Entry) (o : Opid) (ps : List Pair) → has_opid log o ≡ true → list_any (same_opid o) (map (λ (p : Pair). p.opid) (filter (λ (p : Pair). not (has_opid log p.opid)) ps)) ≡ false
+stray_not log o [] has = refl
+stray_not log o (p ∷ ps) has = go (has_opid log p.opid) refl (same_opid o p.opid) refl (stray_not log o ps has)
+  where
+    go : (a : Bool) → has_opid log p.opid ≡ a → (b : Bool) → same_opid o p.opid ≡ b → list_any (same_opid o) (map (λ (p : Pair). p.opid) (filter (λ (p : Pair). not (has_opid log p.opid)) ps)) ≡ false
+        → list_any (same_opid o) (map (λ (p : Pair). p.opid) (filter (λ (p : Pair). not (has_opid log p.opid)) (p ∷ ps))) ≡ false
+    go true x b y rest = rw x rest
+    go false x false y rest = rw (x, y) rest
+    go false x true y rest = absurd (let z : true ≡ false = sym has ∙ (same_is o p.opid y log ∙ x) in cc)
+
+filter_within : (f g : Pair → Bool) (ps : List Pair) → ((p : Pair) → f p ≡ true → g p ≡ true) → filter f (filter g ps) ≡ filter f ps
+filter_within f g [] each = refl
+filter_within f g (p ∷ ps) each = go (f p) refl (g p) refl (filter_within f g ps each)
+  where
+    go : (a : Bool) → f p ≡ a → (b : Bool) → g p ≡ b → filter f (filter g ps) ≡ filter f ps → filter f (filter g (p ∷ ps)) ≡ filter f (p ∷ ps)
+    go true x true y rest = rw (y, x) (ap (λ (qs : List Pair). p ∷ qs) rest)
+    go true x false y rest = absurd (let z : true ≡ false = sym (each p x) ∙ y in cc)
+    go false x true y rest = rw (y, x) rest
+    go false x false y rest = rw (y, x) rest
+
+dropped_pairs : (d : Durable) (opids : List Opid) → stray_opids d ≡ opids → kept_pairs (done d (action.DropPairs opids)) ≡ kept_pairs d
+dropped_pairs d opids is =
+    filter_within (λ (p : Pair). has_opid d.log p.opid) (λ (p : Pair). not (list_any (same_opid p.opid) opids)) d.prepared
+    (λ p has. ap (λ (os : List Opid). not (list_any (same_opid p.opid) os)) (sym is) ∙ ap not (stray_not d.log p.opid d.prepared has))
+
+partly_one : (ring : Layout) (id : ℕ) (d : Durable) (n : ℕ) (o : List Opid) → stray_opids d ≡ o → Engine ring id d → Engine ring id (all_done d (take n (elim o [ [] ↦ [] | o ∷ opids ↦ action.DropPairs (o ∷ opids) ∷ [] ])))
+partly_one ring id d zero [] is x = x
+partly_one ring id d (suc n) [] is x = x
+partly_one ring id d zero (o ∷ opids) is x = x
+partly_one ring id d (suc n) (o ∷ opids) is x = go n
+  where
+    e : Durable
+    e = done d (action.DropPairs (o ∷ opids))
+
+    y : Engine ring id (done d (action.DropPairs (o ∷ opids)))
+    y = record {
+      engine = λ runs. (let z = x.engine runs in (z.0, z.1, z.2, dropped_pairs d (o ∷ opids) is ∙ z.3));
+      tailer = λ runs. (let z = x.tailer runs in (z.0, ap (filter (λ (p : Pair). not (list_any (same_opid p.opid) (o ∷ opids)))) z.1));
+    }
+
+    go : (n : ℕ) → Engine ring id (all_done d (take (suc n) (action.DropPairs (o ∷ opids) ∷ [])))
+    go zero = y
+    go (suc n) = y
+
+-- ---- every step
+engine_kept : (ring : Layout) → IsKeptByAll ring (Engine ring) (Running ring) Nothing
+engine_kept ring = record {
+  first = λ id. record { engine = λ runs. (0, omega arith, omega arith, refl); tailer = λ runs. (refl, refl) };
+  steps = λ h id d s i k n r given sent x y.
+      let st = step ring id d s i in
+      let b = step_both ring id d s i (row_fits ring h id d s (step ring id d s i) k n (step_row ring h id d s i k n r given)) in
+      record {
+        cut = λ c. record {
+          engine = λ runs. along_cut HasPairs d st.plan.actions c (b.engine runs (y runs)).along;
+          tailer = λ runs. along_cut IsEmpty d st.plan.actions c (tail_along d st.plan.actions (b.tail runs) (x.tailer runs));
+        };
+        whole = record {
+          engine = λ runs. along_end HasPairs d st.plan.actions (b.engine runs (y runs)).along;
+          tailer = λ runs. along_end IsEmpty d st.plan.actions (tail_along d st.plan.actions (b.tail runs) (x.tailer runs));
+        };
+        soft = λ runs. (b.engine runs (y runs)).after;
+        sent = λ m in_m. tt;
+      };
+  recovers = λ h id d n x. record {
+    engine = λ runs. (let c = recovered ring h id d n (x.engine runs) in clean_has (recover d) c.0 c.1);
+    tailer = λ runs. (let z = x.tailer runs in (z.0, ap (filter (λ (p : Pair). has_opid d.log p.opid)) z.1));
+  };
+  partly = λ h id d n k x. partly_one ring id d n (stray_opids d) refl x;
+  starts = λ h id d n x runs. (let c = recovered ring h id d n (x.engine runs) in stands_down (recover d) (fresh_soft d) c.0 c.1 refl refl);
+}
+
+held : (ring : Layout) (run : List Move) → Holds (Engine ring) (Running ring) Nothing (world ring run)
+held ring run = holds_always ring (Engine ring) (Running ring) Nothing (engine_kept ring) run
+
+pub every_run_prepares_in_order : EveryRunPreparesInOrder
+every_run_prepares_in_order ring run lawful =
+    let x = held ring run in
+    record {
+      engine = λ id s up runs. (let r = x.running id s up runs in clean_above ((world ring run).nodes id).durable r.k r.clean);
+      tailer = λ id runs. (let z = (x.nodes id).tailer runs in (z.1, z.0));
+    }
+
+-- ---- each node by itself
+empty_has : (d : Durable) → IsEmpty d → HasPairs d
+empty_has d x = (d.applied, omega arith, omega (arith, x.0), ap (filter (λ (p : Pair). has_opid d.log p.opid)) x.1 ∙ sym (ap pairs_in (none_between d.log d.applied d.applied (omega arith))))
+
+pub every_node_keeps_pairs : EveryNodeKeepsPairs
+every_node_keeps_pairs ring run lawful =
+    let x = held ring run in (
+      λ id. (let d = ((world ring run).nodes id).durable in record { pairs_in_order = go id (runs_engine ring id) refl (x.nodes id); tailer = (x.nodes id).tailer }),
+      λ id s up. record {
+        pairs_in_log = kept_in_log id s up (runs_engine ring id) refl;
+        engine_follows = λ runs. (x.running id s up runs).follows;
+        all_prepared = λ ready runs. ((x.running id s up runs).all ready).prepared;
+      },
+    )
+  where
+    go : (id : ℕ) (b : Bool) → runs_engine ring id ≡ b → Engine ring id ((world ring run).nodes id).durable → HasPairs ((world ring run).nodes id).durable
+    go id true is e = e.engine is
+    go id false is e = empty_has ((world ring run).nodes id).durable (e.tailer is)
+
+    kept_in_log : (id : ℕ) (s : Soft) → ((world ring run).nodes id).soft ≡ Some s → (b : Bool) → runs_engine ring id ≡ b → kept_pairs ((world ring run).nodes id).durable ≡ ((world ring run).nodes id).durable.prepared
+    kept_in_log id s up true is = let r = (held ring run).running id s up is in clean_kept ((world ring run).nodes id).durable r.k r.clean
+    kept_in_log id s up false is = let z = ((held ring run).nodes id).tailer is in ap (filter (λ (p : Pair). has_opid ((world ring run).nodes id).durable.log p.opid)) z.1 ∙ sym z.1

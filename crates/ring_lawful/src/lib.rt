@@ -1,0 +1,10 @@
+//! Laws of a ring's nodes: what holds of each node's durable part, and of each running node, in every
+//! world of every run.
+//!
+//! The laws stand over the definitions of `ring_model`. `docs/MODEL.md` tells when a durable part is
+//! sound and a running node lawful.
+#![tactic(auto)]
+
+mod laws;
+
+pub use laws::{law_order, law_pairs, law_prepared_agrees};
