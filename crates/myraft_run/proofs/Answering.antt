@@ -1,5 +1,5 @@
 -- What the shelf answered, and what the order of work comes to by it.
-use Rattle.std.proofs.Common.{◌≡◌, ℕ, ◌≤◌, ◌<◌, ◌⊎◌, inl, inr, List, length, IfSome, Option, Some, None, Result, Ok, Err, refl, sym, ap, subst, ◌∙◌, arith}
+use Rattle.std.proofs.Common.{◌≡◌, ℕ, ◌≤◌, ◌<◌, ◌⊎◌, inl, inr, List, length, IfSome, IfOk, Option, Some, None, Result, Ok, Err, refl, sym, ap, subst, ◌∙◌, arith}
 use Rattle.edge_traits.specs.Counts.{Rose}
 use Rattle.edge_traits.specs.Fetches.{FetchIs, FetchFails}
 use Rattle.edge_traits.specs.declared.shelves.FetchError.{FetchError}
@@ -12,7 +12,8 @@ use Rattle.ring_file.specs.Documents.{ring_of}
 use Rattle.myraft_run.specs.declared.stops.File.TheVariants as file
 use Rattle.myraft_run.specs.Words.{names_of}
 use Rattle.myraft_run.specs.Outcomes.{◌>>=◌, ring_limit, schedule_limit, got, ring_or_fault, schedule_part, after_names, Gives}
-use Rattle.myraft_run.specs.Ends.{Files, Answered, Fetches, ComesTo, Works, RingWorks, Held}
+use Rattle.myraft_run.specs.Ends.{Files, Answered, ComesTo, Held}
+use Rattle.myraft_run.specs.Works.{Fetches, Works, WorksFromNames}
 use Rattle.myraft_run.proofs.Binding.{gives-same, gives-stopped, gives-next}
 
 free-told : (files : Files) (name : List ℕ) (limit : ℕ) → IfSome files (λ f. FetchIs (f name) limit (Err fetch.Memory))
@@ -21,7 +22,7 @@ free-told (Some f) name limit = tt
 
 -- a fetch that was not made may be taken for one without memory
 pub free : (files : Files) (before now : ℕ) (name : List ℕ) (limit : ℕ) → Answered files before now name limit (Err fetch.Memory)
-free files before now name limit = record { told = free-told files name limit; failed = tt }
+free files before now name limit = record { told = free-told files name limit; within = tt; failed = tt }
 
 -- from what the steps gave to what the whole comes to
 comes : (words : List (List ℕ)) (files : Files) (before now : ℕ) (names : Names) (wanted : Result (List ℕ) Stop) (ring_answer schedule_answer : Result (List ℕ) FetchError)
@@ -40,7 +41,7 @@ comes words files before now names wanted ra sa named r s e =
     }
 
 pub works_from : (words : List (List ℕ)) (files : Files) (before now : ℕ) (names : Names) (result : Result (List ℕ) Stop)
-    → names_of words ≡ Ok names → RingWorks names files before now result → Works words files before now result
+    → names_of words ≡ Ok names → WorksFromNames names files before now result → Works words files before now result
 works_from words files before now names (Ok text) named w = comes words files before now names (Ok text) w.ring_answer w.schedule_answer named w.ring_answered w.schedule_answered w.gives
 works_from words files before now names (Err stop.Memory) named w = tt
 works_from words files before now names (Err stop.Unbuilt) named w = comes words files before now names (Err stop.Unbuilt) w.ring_answer w.schedule_answer named w.ring_answered w.schedule_answered w.gives
@@ -83,6 +84,12 @@ held-by files before now name limit a bytes is w =
     let P : Result (List ℕ) FetchError → Type 0 = λ r. IfSome files (λ f. FetchIs (f name) limit r) in
     held-told files name limit bytes (subst P is w.told)
 
+-- and they are within the limit
+pub within_by : (files : Files) (before now : ℕ) (name : List ℕ) (limit : ℕ) (a : Result (List ℕ) FetchError) (bytes : List ℕ) → a ≡ Ok bytes → Answered files before now name limit a → length bytes ≤ limit
+within_by files before now name limit a bytes is w =
+    let P : Result (List ℕ) FetchError → Type 0 = λ r. IfOk r (λ b. length b ≤ limit) in
+    subst P is w.within
+
 ok-or : (file : Option (List ℕ)) (before now limit : ℕ) (bytes : List ℕ) (a : Result (List ℕ) FetchError) → file ≡ Some bytes → length bytes ≤ limit → (Rose before now → ⊥) → FetchIs file limit a → FetchFails before now a
     → (a ≡ Ok bytes) ⊎ (a ≡ Err fetch.Memory)
 ok-or file before now limit bytes (Ok b) is fits steady told failed = let e : b ≡ bytes = cc in inl (ap Ok e)
@@ -101,7 +108,7 @@ fetched None before now name limit bytes a held steady w = absurd held
 fetched (Some f) before now name limit bytes a held steady w = ok-or (f name) before now limit bytes a held.0 held.1 steady w.told w.failed
 
 -- the ring's file was not fetched
-pub unfetched : (names : Names) (files : Files) (before now : ℕ) (e : Stop) → Fetches files before now names.ring ring_limit file.Ring (Err e) → RingWorks names files before now (Err e)
+pub unfetched : (names : Names) (files : Files) (before now : ℕ) (e : Stop) → Fetches files before now names.ring ring_limit file.Ring (Err e) → WorksFromNames names files before now (Err e)
 unfetched names files before now e f =
     let P : Result (List ℕ) Stop → Type 0 = λ r. Gives r (Err e) in
     let same : Result (List ℕ) Stop = Err e in
@@ -115,7 +122,7 @@ unfetched names files before now e f =
     }
 
 -- the ring's file is no ring
-pub unread : (names : Names) (files : Files) (before now : ℕ) (bytes : List ℕ) (e : Stop) → Fetches files before now names.ring ring_limit file.Ring (Ok bytes) → Gives (ring_or_fault (ring_of bytes)) (Err e) → RingWorks names files before now (Err e)
+pub unread : (names : Names) (files : Files) (before now : ℕ) (bytes : List ℕ) (e : Stop) → Fetches files before now names.ring ring_limit file.Ring (Ok bytes) → Gives (ring_or_fault (ring_of bytes)) (Err e) → WorksFromNames names files before now (Err e)
 unread names files before now bytes e f h =
     let on_ring : Layout → Result (List ℕ) Stop = λ ring. got file.Schedule (Err fetch.Memory) >>= schedule_part ring in
     let on_bytes : List ℕ → Result (List ℕ) Stop = λ b. ring_or_fault (ring_of b) >>= on_ring in

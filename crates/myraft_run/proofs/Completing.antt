@@ -1,20 +1,26 @@
 -- Two files that the shelf holds, and in which nothing stops the work, are replayed unless memory runs out or something fails.
-use Rattle.std.proofs.Common.{◌≡◌, ℕ, ◌⊎◌, inl, inr, List, Result, Ok, Err, refl, sym, ap, ap₂, subst, ◌∙◌}
+use Rattle.std.proofs.Common.{◌≡◌, ℕ, Bool, true, false, cond, ◌⊎◌, inl, inr, List, Result, Ok, Err, refl, sym, ap, ap₂, ◌∙◌}
 use Rattle.edge_traits.specs.Counts.{Rose}
 use Rattle.edge_traits.specs.declared.shelves.FetchError.{FetchError}
 use Rattle.edge_traits.specs.declared.shelves.FetchError.TheVariants as fetch
 use Rattle.myraft_run.specs.declared.words.Names.{Names}
 use Rattle.ring_types.specs.Rings.{Layout}
+use Rattle.std.specs.List.{list_any}
+use Rattle.ring_model.specs.Worlds.{first_world}
+use Rattle.ring_model.specs.declared.worlds.Event.{Event}
 use Rattle.ring_file.specs.Documents.{ring_of}
+use Rattle.schedule_text.specs.declared.faults.ScheduleError.{ScheduleError}
 use Rattle.myraft_run.specs.declared.stops.Stop.{Stop}
 use Rattle.myraft_run.specs.declared.stops.Stop.TheVariants as stop
 use Rattle.myraft_run.specs.declared.stops.File.TheVariants as file
 use Rattle.myraft_run.specs.Stops.{status_of}
 use Rattle.myraft_run.specs.Words.{names_of}
-use Rattle.myraft_run.specs.Outcomes.{◌>>=◌, ring_limit, schedule_limit, got, ring_or_fault, schedule_part, after_names, text_of}
-use Rattle.myraft_run.specs.Ends.{Files, ComesTo, Works, IsReplayable}
+use Rattle.myraft_run.specs.Outcomes.{◌>>=◌, ring_limit, schedule_limit, got, ring_or_fault, events_or_line, has_suffix, built_events, first_unknown, report_of, replayed, schedule_part, after_names, text_of}
+use Rattle.myraft_run.specs.Ends.{Files, ComesTo, IsReplayable}
+use Rattle.myraft_run.specs.Works.{Works}
 use Rattle.myraft_run.proofs.Answering.{fetched}
-use Rattle.myraft_run.proofs.Printing.{steps}
+use Rattle.myraft_run.proofs.KnownRuns.{known-of}
+use Rattle.myraft_run.proofs.Ways.{told-text}
 
 -- what the order of work comes to where a fetch has no memory
 no-ring : (words : List (List ℕ)) (names : Names) (sa : Result (List ℕ) FetchError) → names_of words ≡ Ok names → text_of words (Err fetch.Memory) sa ≡ Err stop.Memory
@@ -27,19 +33,32 @@ no-schedule words names bytes ring named read =
     let f : Result Names Stop → Result (List ℕ) Stop = λ n. n >>= λ m. after_names (Ok bytes) (Err fetch.Memory) in
     ap f named ∙ ap (λ r. ring_or_fault r >>= (λ (l : Layout). got file.Schedule (Err fetch.Memory) >>= schedule_part l)) read
 
+built-goes-on : (ring : Layout) (events : List Event) (any : Bool) → list_any has_suffix events ≡ any → any ≡ false → (built_events events >>= replayed ring) ≡ replayed ring events
+built-goes-on ring events true is none = absurd cc
+built-goes-on ring events false is none =
+    let f : Bool → Result (List ℕ) Stop = λ b. cond b (Err stop.Unbuilt) (Ok events) >>= replayed ring in
+    ap f is
+
+-- the schedule's part of a ring and a schedule that are replayable
+part-of : (words : List (List ℕ)) (files : Files) (r : IsReplayable words files) → schedule_part r.ring r.schedule_bytes ≡ Ok (report_of r.ring r.events)
+part-of words files r =
+    let f : Result (List Event) ScheduleError → Result (List ℕ) Stop = λ e. events_or_line e >>= built_events >>= replayed r.ring in
+    ap f r.events_read ∙ built-goes-on r.ring r.events (list_any has_suffix r.events) refl r.all_built ∙ told-text r.ring r.events (first_unknown r.ring first_world r.events) refl (known-of r.ring r.events r.is_run)
+
+text-of : (words : List (List ℕ)) (files : Files) (r : IsReplayable words files) → text_of words (Ok r.ring_bytes) (Ok r.schedule_bytes) ≡ Ok (report_of r.ring r.events)
+text-of words files r =
+    let f : Result Names Stop → Result (List ℕ) Stop = λ n. n >>= λ m. after_names (Ok r.ring_bytes) (Ok r.schedule_bytes) in
+    ap f r.named ∙ ap (λ l. ring_or_fault l >>= (λ (ring : Layout). schedule_part ring r.schedule_bytes)) r.ring_read ∙ part-of words files r
+
 never-by : (words : List (List ℕ)) (files : Files) (r : IsReplayable words files) (ra sa : Result (List ℕ) FetchError) (s : Stop) → (s ≡ stop.Memory → ⊥) → text_of words ra sa ≡ Err s
     → (ra ≡ Ok r.ring_bytes) ⊎ (ra ≡ Err fetch.Memory) → (sa ≡ Ok r.schedule_bytes) ⊎ (sa ≡ Err fetch.Memory) → ⊥
 never-by words files r ra sa s other comes (inl a) (inl b) =
     let e : text_of words (Ok r.ring_bytes) (Ok r.schedule_bytes) ≡ Err s = ap₂ (text_of words) (sym a) (sym b) ∙ comes in
-    let f : Ok r.text ≡ Err s = sym r.comes ∙ e in
+    let f : Ok (report_of r.ring r.events) ≡ Err s = sym (text-of words files r) ∙ e in
     absurd cc
 never-by words files r ra sa s other comes (inl a) (inr b) =
-    let st = steps words (Ok r.ring_bytes) (Ok r.schedule_bytes) r.text r.comes in
-    let same : Ok st.ring_bytes ≡ Ok r.ring_bytes = sym st.ring_got in
-    let P : List ℕ → Type 0 = λ b. ring_of b ≡ Ok st.ring in
-    let bytes : st.ring_bytes ≡ r.ring_bytes = cc in
     let e : text_of words (Ok r.ring_bytes) (Err fetch.Memory) ≡ Err s = ap₂ (text_of words) (sym a) (sym b) ∙ comes in
-    let f : Err stop.Memory ≡ Err s = sym (no-schedule words r.names r.ring_bytes st.ring r.named (subst P bytes st.ring_read)) ∙ e in
+    let f : Err stop.Memory ≡ Err s = sym (no-schedule words r.names r.ring_bytes r.ring r.named r.ring_read) ∙ e in
     let g : s ≡ stop.Memory = cc in
     other g
 never-by words files r ra sa s other comes (inr a) o =

@@ -19,6 +19,19 @@ run-from ring w (e ∷ events) h = run-more ring w e events (is_known ring w e.w
 pub run-of : (ring : Layout) (events : List Event) → first_unknown ring first_world events ≡ None → IsRun ring (whole_moves events)
 run-of ring events h = run-from ring first_world events h
 
+-- and of a run none is refused
+known-more : (ring : Layout) (w : WorldState) (e : Event) (events : List Event) (known : Bool) → known ≡ true → first_unknown ring (world_step ring w e Whole) events ≡ None
+    → cond known (first_unknown ring (world_step ring w e Whole) events) (Some e.line) ≡ None
+known-more ring w e events true is rest = rest
+known-more ring w e events false is rest = absurd cc
+
+known-from : (ring : Layout) (w : WorldState) (events : List Event) → IsRunFrom ring w (whole_moves events) → first_unknown ring w events ≡ None
+known-from ring w [] h = refl
+known-from ring w (e ∷ events) h = known-more ring w e events (is_known ring w e.what) h.0 (known-from ring (world_step ring w e Whole) events h.2)
+
+pub known-of : (ring : Layout) (events : List Event) → IsRun ring (whole_moves events) → first_unknown ring first_world events ≡ None
+known-of ring events h = known-from ring first_world events h
+
 front-from : (ring : Layout) (w : WorldState) (before after : List Move) → IsRunFrom ring w (before ++ after) → IsRunFrom ring w before
 front-from ring w [] after h = tt
 front-from ring w (m ∷ before) after h = (h.0, h.1, front-from ring (world_step ring w m.event m.completion) before after h.2)

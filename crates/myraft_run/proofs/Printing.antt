@@ -6,6 +6,7 @@ use Rattle.ring_types.specs.Rings.{Layout}
 use Rattle.ring_model.specs.Worlds.{first_world, shown}
 use Rattle.ring_model.specs.Runs.{world, whole_moves}
 use Rattle.ring_model.specs.Safety.{EveryRunIsSafeSoFar}
+use Rattle.ring_lawful.specs.Lawful.{EveryRunPreparesInOrder}
 use Rattle.ring_model.specs.declared.worlds.Event.{Event}
 use Rattle.ring_file.specs.Documents.{ring_of}
 use Rattle.schedule_text.specs.Schedules.{events_of}
@@ -17,7 +18,7 @@ use Rattle.myraft_run.specs.Words.{names_of}
 use Rattle.myraft_run.specs.Outcomes.{◌>>=◌, ring_limit, schedule_limit, got, ring_or_fault, events_or_line, has_suffix, built_events, first_unknown, report_of, replayed, schedule_part, after_names, text_of}
 use Rattle.myraft_run.specs.Ends.{Files, ComesTo, Printed}
 use Rattle.myraft_run.proofs.Binding.{bind-ok, got-ok, ring-ok, events-ok, built-ok, replayed-ok}
-use Rattle.myraft_run.proofs.Answering.{held-by}
+use Rattle.myraft_run.proofs.Answering.{held-by, within_by}
 use Rattle.myraft_run.proofs.KnownRuns.{run-of, front-of}
 
 -- what a schedule's part that went through was made of
@@ -78,9 +79,9 @@ report-of-is : (ring : Layout) (events : List Event) → report_of ring events �
 unfolding report_of
 report-of-is ring events = refl
 
-pub printed : (words : List (List ℕ)) (files : Files) (before now : ℕ) (text : List ℕ) (old new : Option (List ℕ)) → EveryRunIsSafeSoFar
+pub printed : (words : List (List ℕ)) (files : Files) (before now : ℕ) (text : List ℕ) (old new : Option (List ℕ)) → EveryRunIsSafeSoFar → EveryRunPreparesInOrder
     → ComesTo words files before now (Ok text) → IfSome old (λ taken. new ≡ Some (taken ++ text)) → Printed words files old new
-printed words files before now text old new law w wrote =
+printed words files before now text old new law prepares w wrote =
     let s = steps words w.ring_answer w.schedule_answer text w.comes in
     let p = scheduled s.ring s.schedule_bytes text s.part in
     let run = run-of s.ring p.events p.all_known in
@@ -89,8 +90,10 @@ printed words files before now text old new law w wrote =
       named = s.named;
       ring_bytes = s.ring_bytes;
       ring_held = held-by files before now s.names.ring ring_limit w.ring_answer s.ring_bytes s.ring_got (w.ring_answered s.names s.named);
+      ring_within = within_by files before now s.names.ring ring_limit w.ring_answer s.ring_bytes s.ring_got (w.ring_answered s.names s.named);
       schedule_bytes = s.schedule_bytes;
       schedule_held = held-by files before now s.names.schedule schedule_limit w.schedule_answer s.schedule_bytes s.schedule_got (w.schedule_answered s.names s.named);
+      schedule_within = within_by files before now s.names.schedule schedule_limit w.schedule_answer s.schedule_bytes s.schedule_got (w.schedule_answered s.names s.named);
       ring = s.ring;
       ring_read = s.ring_read;
       events = p.events;
@@ -99,4 +102,5 @@ printed words files before now text old new law w wrote =
       is_run = run;
       written = written-as old new text (report s.ring (shown s.ring (world s.ring (whole_moves p.events)))) (p.text_is ∙ report-of-is s.ring p.events) wrote;
       safe = λ before after e. law s.ring before (front-of s.ring (whole_moves p.events) before after e run);
+      prepared = λ before after e. prepares s.ring before (front-of s.ring (whole_moves p.events) before after e run);
     }

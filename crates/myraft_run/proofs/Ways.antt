@@ -2,7 +2,7 @@
 use Rattle.std.proofs.Common.{◌≡◌, ℕ, ◌≤◌, List, [], length, drop, IfOk, IfErr, Option, Some, None, Result, Ok, Err, refl, sym, ap, subst, ◌∙◌, arith}
 use Rattle.std.proofs.lemmas.Grind.{common_steps}
 use Rattle.ring_types.specs.Rings.{Layout}
-use Rattle.ring_model.specs.Worlds.{first_world, shown}
+use Rattle.ring_model.specs.Worlds.{WorldState, first_world, shown}
 use Rattle.ring_model.specs.Runs.{world_from, world, whole_moves}
 use Rattle.ring_model.specs.declared.worlds.Event.{Event}
 use Rattle.ring_model.specs.declared.worlds.World.{World}
@@ -10,12 +10,18 @@ use Rattle.report_text.specs.Report.{report}
 use Rattle.myraft_run.specs.declared.stops.Stop.{Stop}
 use Rattle.myraft_run.specs.declared.stops.Stop.TheVariants as stop
 use Rattle.myraft_run.specs.Outcomes.{first_unknown, report_of, replayed, Gives}
-use Rattle.myraft_run.specs.Takes.{OnTheWay}
+
+-- the world that is shown after so many events: what is left of them comes to what all come to
+pub record OnTheWay (ring : Layout) (events : List Event) (taken : ℕ) (now : World) : Type 0 where
+  pub state : WorldState
+  pub is_shown : now ≡ shown ring state
+  pub unknown : first_unknown ring state (drop taken events) ≡ first_unknown ring first_world events
+  pub ends : world_from ring state (whole_moves (drop taken events)) ≡ world ring (whole_moves events)
 
 drop-none : {A : Type 0} (xs : List A) (n : ℕ) → length xs ≤ n → drop n xs ≡ []
 drop-none xs n h = grind (arith, common_steps)
 
-told-text : (ring : Layout) (events : List Event) (o : Option ℕ) → first_unknown ring first_world events ≡ o → o ≡ None → replayed ring events ≡ Ok (report_of ring events)
+pub told-text : (ring : Layout) (events : List Event) (o : Option ℕ) → first_unknown ring first_world events ≡ o → o ≡ None → replayed ring events ≡ Ok (report_of ring events)
 told-text ring events None is none = let f : Option ℕ → Result (List ℕ) Stop = λ (x : Option ℕ). elim x [ None ↦ Ok (report_of ring events) | Some line ↦ Err (stop.BadLine line) ] in ap f is
 told-text ring events (Some line) is none = absurd cc
 

@@ -1,5 +1,5 @@
 -- How a run of the program ends: what it printed, or why it stopped and what it wrote to the errors.
-use Rattle.std.specs.Prelude.{◌≡◌, ℕ, ◌≤◌, ◌⊎◌, false, List, ◌++◌, length, IfSome, Option, Some, None, Result, Ok, Err}
+use Rattle.std.specs.Prelude.{◌≡◌, ℕ, ◌≤◌, ◌⊎◌, false, List, ◌++◌, length, IfSome, IfOk, Option, Some, None, Result, Ok, Err}
 use Rattle.std.specs.List.{list_any}
 use Rattle.edge_traits.specs.Counts.{Rose}
 use Rattle.edge_traits.specs.Fetches.{FetchIs, FetchFails}
@@ -9,19 +9,17 @@ use Rattle.edge_traits.specs.declared.sinks.SinkFault.{SinkFault}
 use Rattle.ring_types.specs.Rings.{Layout}
 use Rattle.ring_model.specs.Worlds.{shown}
 use Rattle.ring_model.specs.Runs.{Move, IsRun, world, whole_moves}
-use Rattle.ring_model.specs.Safety.{SafeSoFar}
+use Rattle.ring_model.specs.Safety.{SafeSoFar, PreparedAgrees}
 use Rattle.ring_model.specs.declared.worlds.Event.{Event}
 use Rattle.ring_file.specs.Documents.{ring_of}
 use Rattle.schedule_text.specs.Schedules.{events_of}
 use Rattle.report_text.specs.Report.{report}
 use Rattle.myraft_run.specs.declared.words.Names.{Names}
-use Rattle.myraft_run.specs.declared.stops.File.{File}
 use Rattle.myraft_run.specs.declared.stops.Stop.{Stop}
 use Rattle.myraft_run.specs.declared.stops.Stop.TheVariants as stop
 use Rattle.myraft_run.specs.Words.{names_of}
 use Rattle.myraft_run.specs.Stops.{status_of, line_of}
-use Rattle.myraft_run.specs.declared.stops.File.TheVariants as file
-use Rattle.myraft_run.specs.Outcomes.{◌>>=◌, ring_limit, schedule_limit, has_suffix, got, schedule_part, after_names, text_of, Gives}
+use Rattle.myraft_run.specs.Outcomes.{ring_limit, schedule_limit, has_suffix, text_of}
 
 -- the bytes of each file by its name, where the shelf tells its files
 abbrev pub Files : Type 0
@@ -31,15 +29,10 @@ Files = Option (List ℕ → Option (List ℕ))
 -- to the fetch of a name, in a stretch in which its count of faults went from the one number to the other
 pub record Answered (files : Files) (before now : ℕ) (name : List ℕ) (limit : ℕ) (answer : Result (List ℕ) FetchError) : Type 0 where
   pub told : IfSome files (λ f. FetchIs (f name) limit answer)
+  pub within : IfOk answer (λ bytes. length bytes ≤ limit)
   pub failed : FetchFails before now answer
 
--- one fetch, and what follows from it
-pub record Fetches (files : Files) (before now : ℕ) (name : List ℕ) (limit : ℕ) (f : File) (result : Result (List ℕ) Stop) : Type 0 where
-  pub answer : Result (List ℕ) FetchError
-  pub answered : Answered files before now name limit answer
-  pub gives : result ≡ got f answer
-
--- by what the shelf answered, the order of work comes to this
+-- by answers that the shelf may have given, the order of work comes to this
 pub record ComesTo (words : List (List ℕ)) (files : Files) (before now : ℕ) (wanted : Result (List ℕ) Stop) : Type 0 where
   pub ring_answer : Result (List ℕ) FetchError
   pub schedule_answer : Result (List ℕ) FetchError
@@ -47,33 +40,16 @@ pub record ComesTo (words : List (List ℕ)) (files : Files) (before now : ℕ) 
   pub schedule_answered : (names : Names) → names_of words ≡ Ok names → Answered files before now names.schedule schedule_limit schedule_answer
   pub comes : text_of words ring_answer schedule_answer ≡ wanted
 
--- what was returned is what the order of work comes to, unless memory ran out
-abbrev pub Works : List (List ℕ) → Files → ℕ → ℕ → Result (List ℕ) Stop → Type 0
-Works words files before now (Ok text) = ComesTo words files before now (Ok text)
-Works words files before now (Err stop.Memory) = Unit {0}
-Works words files before now (Err s) = ComesTo words files before now (Err s)
-
--- the same from the names on, and from the ring on
-pub record ScheduleWorks (ring : Layout) (name : List ℕ) (files : Files) (before now : ℕ) (result : Result (List ℕ) Stop) : Type 0 where
-  pub answer : Result (List ℕ) FetchError
-  pub answered : Answered files before now name schedule_limit answer
-  pub gives : Gives (got file.Schedule answer >>= schedule_part ring) result
-
-pub record RingWorks (names : Names) (files : Files) (before now : ℕ) (result : Result (List ℕ) Stop) : Type 0 where
-  pub ring_answer : Result (List ℕ) FetchError
-  pub schedule_answer : Result (List ℕ) FetchError
-  pub ring_answered : Answered files before now names.ring ring_limit ring_answer
-  pub schedule_answered : Answered files before now names.schedule schedule_limit schedule_answer
-  pub gives : Gives (after_names ring_answer schedule_answer) result
-
--- ---- status 0: the report of the ring's run is written, and every world on its way is safe as far as that is proved
+-- ---- status 0: the two files are a ring and a schedule of it, the report of the run is written, and every world on its way is safe as far as that is proved
 pub record Printed (words : List (List ℕ)) (files : Files) (out_old out_new : Option (List ℕ)) : Type 0 where
   pub names : Names
   pub named : names_of words ≡ Ok names
   pub ring_bytes : List ℕ
   pub ring_held : IfSome files (λ f. f names.ring ≡ Some ring_bytes)
+  pub ring_within : length ring_bytes ≤ ring_limit
   pub schedule_bytes : List ℕ
   pub schedule_held : IfSome files (λ f. f names.schedule ≡ Some schedule_bytes)
+  pub schedule_within : length schedule_bytes ≤ schedule_limit
   pub ring : Layout
   pub ring_read : ring_of ring_bytes ≡ Ok ring
   pub events : List Event
@@ -82,15 +58,9 @@ pub record Printed (words : List (List ℕ)) (files : Files) (out_old out_new : 
   pub is_run : IsRun ring (whole_moves events)
   pub written : IfSome out_old (λ old. out_new ≡ Some (old ++ report ring (shown ring (world ring (whole_moves events)))))
   pub safe : (before after : List Move) → whole_moves events ≡ before ++ after → SafeSoFar ring before
+  pub prepared : (before after : List Move) → whole_moves events ≡ before ++ after → PreparedAgrees ring (world ring before)
 
 -- ---- any other status: its cause, and its line
--- what came of writing a text
-abbrev pub Wrote : List ℕ → Option (List ℕ) → Option (List ℕ) → ℕ → ℕ → Result (Unit {0}) Stop → Type 0
-Wrote text old new before now (Ok done) = IfSome old (λ taken. new ≡ Some (taken ++ text))
-Wrote text old new before now (Err stop.WriteFault) = Rose before now × IfSome old (λ taken. TakesFront taken text new)
-Wrote text old new before now (Err stop.Memory) = IfSome old (λ taken. TakesFront taken text new)
-Wrote text old new before now (Err s) = ⊥
-
 -- a front of the text was written
 pub record WritesFront (words : List (List ℕ)) (files : Files) (before now : ℕ) (out_old out_new : Option (List ℕ)) : Type 0 where
   pub text : List ℕ
@@ -105,7 +75,7 @@ IsCause words files before now out_old out_new out_before out_now stop.Memory =
     (out_new ≡ out_old) ⊎ WritesFront words files before now out_old out_new
 IsCause words files before now out_old out_new out_before out_now s = (out_new ≡ out_old) × ComesTo words files before now (Err s)
 
--- the line went to the errors, whole unless a put of them failed
+-- the line went to the errors: the whole of it, or a front where their count of faults rose or a put wanted memory
 pub record Tells (line : List ℕ) (old new : Option (List ℕ)) (before now : ℕ) : Type 0 where
   pub answer : Result (Unit {0}) SinkFault
   pub told : IfSome old (λ taken. PutIs taken line new answer)
@@ -123,13 +93,17 @@ abbrev pub Held : Files → List ℕ → ℕ → List ℕ → Type 0
 Held None name limit bytes = ⊥
 Held (Some f) name limit bytes = (f name ≡ Some bytes) × (length bytes ≤ limit)
 
--- the words name two files that the shelf holds within their limits, and nothing in them stops the order of work
+-- the words name two files that the shelf holds within their limits: a ring, and a schedule of it without a suffix, whose events name nodes and messages that are there
 pub record IsReplayable (words : List (List ℕ)) (files : Files) : Type 0 where
   pub names : Names
   pub named : names_of words ≡ Ok names
   pub ring_bytes : List ℕ
-  pub schedule_bytes : List ℕ
   pub ring_held : Held files names.ring ring_limit ring_bytes
+  pub schedule_bytes : List ℕ
   pub schedule_held : Held files names.schedule schedule_limit schedule_bytes
-  pub text : List ℕ
-  pub comes : text_of words (Ok ring_bytes) (Ok schedule_bytes) ≡ Ok text
+  pub ring : Layout
+  pub ring_read : ring_of ring_bytes ≡ Ok ring
+  pub events : List Event
+  pub events_read : events_of schedule_bytes ≡ Ok events
+  pub all_built : list_any has_suffix events ≡ false
+  pub is_run : IsRun ring (whole_moves events)

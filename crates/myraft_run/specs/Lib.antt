@@ -1,5 +1,5 @@
 pub mod Stops
 pub mod Words
 pub mod Outcomes
-pub mod Takes
 pub mod Ends
+pub mod Works

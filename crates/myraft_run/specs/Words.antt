@@ -6,11 +6,12 @@ use Rattle.myraft_run.specs.declared.stops.Stop.TheVariants as stop
 use Rattle.myraft_run.specs.declared.stops.File.{File}
 use Rattle.myraft_run.specs.declared.stops.File.TheVariants as file
 
--- a name that begins with a dash is none
+-- the name begins with a dash
 abbrev pub is_dashed : List ℕ → Bool
 is_dashed [] = false
 is_dashed (first ∷ name) = first == 45
 
+-- the words are `replay` and two names without a dash in front
 abbrev pub named : List ℕ → List ℕ → List ℕ → Result Names Stop
 named verb ring schedule =
     if not (bytes_eq verb (codes "replay")) || is_dashed ring || is_dashed schedule then Err stop.Unbuilt else Ok (record { ring = ring; schedule = schedule })

@@ -1,6 +1,6 @@
 ghost use Rattle.std.specs.Prelude.{◌≡◌, ◌≤◌};
 ghost use Rattle.myraft_run.specs.Outcomes as spec;
-ghost use Rattle.myraft_run.specs.Ends.{Fetches};
+ghost use Rattle.myraft_run.specs.Works.{Fetches};
 
 use crate::stops::{File, Stop};
 use edge_traits::{FetchError, Shelf};

@@ -1,5 +1,5 @@
 ghost use Rattle.std.specs.Prelude.{◌≡◌, map, string_bytes};
-ghost use Rattle.myraft_run.specs.Ends.{Works, RingWorks, ScheduleWorks};
+ghost use Rattle.myraft_run.specs.Works.{Works, WorksFromNames, WorksFromRing};
 
 use crate::fetching::fetch;
 use crate::replaying::{ring_from, schedule_part};
@@ -19,7 +19,7 @@ fn with_ring<H: Shelf>(
     name: &Text,
     shelf: &mut H,
 ) -> Result<List<u8>, Stop>
-    ensures { ScheduleWorks ring.now name.now (H.files shelf.old) (H.faults shelf.old) (H.faults shelf.new) result }
+    ensures { WorksFromRing ring.now name.now (H.files shelf.old) (H.faults shelf.old) (H.faults shelf.new) result }
 {
     let bytes = fetch(shelf, File::Schedule, name, SCHEDULE_LIMIT)?;
     schedule_part(alloc, ring, bytes.as_slice())
@@ -27,7 +27,7 @@ fn with_ring<H: Shelf>(
 
 #[tactic(auto, using(crate::proofs::Answering::unfetched, crate::proofs::Answering::unread))]
 fn with_names<H: Shelf>(alloc: Global, names: &Names, shelf: &mut H) -> Result<List<u8>, Stop>
-    ensures { RingWorks names.now (H.files shelf.old) (H.faults shelf.old) (H.faults shelf.new) result }
+    ensures { WorksFromNames names.now (H.files shelf.old) (H.faults shelf.old) (H.faults shelf.new) result }
 {
     let bytes = fetch(shelf, File::Ring, &names.ring, RING_LIMIT)?;
     let ring = ring_from(alloc, bytes.as_slice())?;

@@ -7,7 +7,7 @@ ghost use Rattle.schedule_text.specs.Schedules.{events_of};
 ghost use Rattle.report_text.specs.Report.{report};
 ghost use Rattle.myraft_run.specs.Outcomes as spec;
 ghost use Rattle.myraft_run.specs.Outcomes.{Gives};
-ghost use Rattle.myraft_run.specs.Takes.{Takes};
+ghost use Rattle.myraft_run.specs.Works.{Takes};
 
 use crate::stops::Stop;
 use report_text::write_report;

@@ -1,11 +1,13 @@
 ghost use Rattle.std.specs.Prelude.{◌≡◌, ◌≢◌, ◌⊎◌, ◌++◌, IfSome, map, string_bytes};
 ghost use Rattle.edge_traits.specs.Counts.{Rose};
-ghost use Rattle.myraft_run.specs.Ends.{Wrote, Printed, Stopped, IsReplayable};
+ghost use Rattle.myraft_run.specs.Works.{Wrote};
+ghost use Rattle.myraft_run.specs.Ends.{Printed, Stopped, IsReplayable};
 
 use crate::jobs::text;
 use crate::lines::tell;
 use crate::stops::{Status, Stop, status_of};
 use edge_traits::{Shelf, Sink, SinkFault};
+use ring_lawful::law_prepared_agrees;
 use ring_model::law_safe;
 use std::alloc::Global;
 
@@ -35,6 +37,7 @@ pub fn run<H: Shelf, O: Sink, E: Sink>(
     ensures complete { IsReplayable (map string_bytes words.now.items) (H.files shelf.old) → (Rose (H.faults shelf.old) (H.faults shelf.new) → ⊥) → (Rose (O.faults out.old) (O.faults out.new) → ⊥) → (result.0 ≡ 0) ⊎ (result.0 ≡ 13) }
 {
     law_safe();
+    law_prepared_agrees();
     match text(alloc, words.as_slice(), shelf) {
         Ok(text) => match write(out, text.as_slice()) {
             Ok(()) => Status(0),

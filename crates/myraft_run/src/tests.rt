@@ -195,12 +195,7 @@ fn a_file_above_its_limit_is_too_large(rt: HostRuntime) -> Result<(), Fail> {
     Ok(())
 }
 
-fn put_insert(
-    schedule: &mut String,
-    alloc: Global,
-    key: u64,
-    length: usize,
-) -> Result<(), Memory> {
+fn put_insert(schedule: &mut String, alloc: Global, key: u64, length: usize) -> Result<(), Memory> {
     let body = String::from_utf8(vec![in alloc; b'b'; length]?);
     let body = body.unwrap_or(String::new(alloc));
     let change = format!(in alloc; "insert t {key} '{body}'")?;
@@ -228,7 +223,13 @@ fn a_group_has_at_most_a_million_bytes(rt: HostRuntime) -> Result<(), Fail> {
     let above = large_write(rt.alloc(), 2025)?;
     let refused = replayed(rt.alloc(), above.as_str(), 0, 0, 0)?;
     let too_large = b"said 2 1 refused too-large 1000001\n";
-    assert!(rt; refused.out.taken().as_slice().ends_with(too_large.as_slice()));
+    assert!(rt;
+        refused
+            .out
+            .taken()
+            .as_slice()
+            .ends_with(too_large.as_slice())
+    );
     Ok(())
 }
 

@@ -1,4 +1,5 @@
 -- A durable part with the rows that its engine has applied.
+-- Only private contracts cite this file.
 use Rattle.std.specs.Prelude.{◌≡◌}
 use Rattle.ring_types.specs.Rings.{Layout}
 use Rattle.ring_model.specs.Writes.{committed_rows}

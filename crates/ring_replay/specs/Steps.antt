@@ -1,4 +1,5 @@
 -- The step of the world as it is shown, where every event goes to its end: nodes and cursors by the places of their members in ring order, counted from 0.
+-- Only private contracts cite this file; `proofs/Law.antt` ties it to the step of the model's world.
 use Rattle.std.specs.Prelude.{ℕ, suc, ◌==◌, nat_lt, nat_le, Bool, ◌&&◌, List, [], ◌++◌, length, map, position, Option, Some, None, option_map, slice_get, slice_set, unwrap_or}
 use Rattle.ring_types.specs.declared.members.Member.{Member}
 use Rattle.ring_types.specs.Rings.{Layout, is_member}

@@ -1,4 +1,5 @@
 -- A turn: what a node becomes, with the rows that its engine has applied, and what it sends and says.
+-- Only private contracts cite this file.
 use Rattle.std.specs.Prelude.{ℕ, List, [], slice_set}
 use Rattle.ring_types.specs.Rings.{Layout}
 use Rattle.ring_types.specs.Rows.{Tables}

@@ -1,7 +1,7 @@
 -- the replay is held, and its world is on the way
 use Rattle.std.proofs.Common.{◌≡◌}
 use Rattle.ring_replay.specs.Replays.{IsHeld}
-use Rattle.myraft_run.specs.Takes.{OnTheWay}
+use Rattle.myraft_run.proofs.Ways.{OnTheWay}
 use Rattle.myraft_run.proofs.replaying.replayed.Given as goal
 
 abbrev pub invariant-loop-event : goal.invariant-loop-event
