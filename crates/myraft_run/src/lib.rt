@@ -1,10 +1,8 @@
-//! The command `replay RING SCHEDULE`: a ring file and a schedule are read, the ring is run through the
-//! events, and the report of its world is written.
+//! What `replay RING SCHEDULE` does: it takes a ring through the events of a schedule and writes
+//! the report of the world that comes of it.
 //!
-//! [`run`] is the one public call. Its order of work is the definition `text_of` in
-//! `specs/Outcomes.antt`: the words, the ring fetched and read, the schedule fetched and read whole, the
-//! run, the output. Nothing goes to the output before the run has ended; a status other than 0 writes
-//! its one line to the errors.
+//! [`run`] is the one public call; `text_of` in `specs/Outcomes.antt` defines in which order it works.
+//! The output is first touched when all events are taken; at any status but 0 the errors get a line.
 #![tactic(auto)]
 
 mod fetching;

@@ -86,7 +86,7 @@ pub fn value_fits(shape: Shape, value: &Value) -> bool
     }
 }
 
-/// Whether there is one value per column, each of the column's shape or Null.
+/// Whether values and columns pair off, and each value suits its column or is Null.
 pub fn values_fit(columns: &[Column], row: &[Value]) -> bool
     ensures { result ≡ spec.values_fit columns.now row.now }
 {
@@ -109,7 +109,7 @@ pub fn row_fits(table: &Table, row: &[Value]) -> bool
     values_fit(table.columns.as_slice(), row) && !has_null_key(row)
 }
 
-/// Whether the key may stand first in a row of the table.
+/// Whether a row of the table could have this key.
 pub fn key_fits(table: &Table, key: &Value) -> bool
     ensures { result ≡ spec.key_fits table.now key.now }
 {
@@ -163,7 +163,7 @@ pub fn table_of<'a>(schema: &'a Schema, name: &Text) -> Option<&'a Table>
         .find(|table| table.name == *name)
 }
 
-/// Whether the change names a table of the schema, and has a row or a key that fits it.
+/// Whether the schema has the change's table, and the row or the key fits there.
 pub fn change_fits(schema: &Schema, change: &Change) -> bool
     ensures { result ≡ spec.change_fits schema.now change.now }
 {
@@ -179,7 +179,7 @@ fn each_fits(schema: &Schema, changes: &[Change]) -> bool
     changes.iter().all(|change| change_fits(schema, change))
 }
 
-/// Whether there is at least one change, and each fits.
+/// Whether there are changes and all of them fit.
 pub fn changes_fit(schema: &Schema, changes: &[Change]) -> bool
     ensures { result ≡ spec.changes_fit schema.now changes.now }
 {

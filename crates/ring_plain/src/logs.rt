@@ -34,7 +34,7 @@ pub fn region_at(home: RegionId, log: &[Entry], position: u64) -> RegionId
     }
 }
 
-/// The opid of the last entry, 0:0 for the empty log.
+/// The opid at the end of the log; without entries, 0:0.
 pub fn last(log: &[Entry]) -> Opid
     ensures { result ≡ spec.last log.now }
 {

@@ -5,7 +5,7 @@ use ring_model::{Append, Durable, Soft, Tear};
 use ring_plain::term_at;
 use ring_types::Entry;
 
-/// The least committed position from this one on at which an entry differs in term from the log's.
+/// The lowest committed position, from this one on, where log and entries have unlike terms.
 #[tactic(auto, using(crate::proofs::Torn::past_commit))]
 fn first_tear(log: &[Entry], commit: u64, position: u64, entries: &[Entry]) -> Option<Tear>
     ensures { result ≡ spec.first_tear log.now commit position (spec.terms_of entries.now) }
@@ -31,8 +31,8 @@ fn first_tear(log: &[Entry], commit: u64, position: u64, entries: &[Entry]) -> O
     None
 }
 
-/// The least position at which the message's previous opid or an entry differs in term from a
-/// committed one.
+/// The lowest committed position where the log's term is not the one that the message has there, be
+/// it in its previous opid or in an entry.
 #[tactic(auto, using(crate::proofs::Torn::past_commit))]
 pub(crate) fn tear_in(durable: &Durable, soft: &Soft, sent: &Append) -> Option<Tear>
     ensures { result ≡ spec.tear_in durable.now soft.now sent.now }
