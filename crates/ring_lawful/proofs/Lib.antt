@@ -8,3 +8,6 @@ pub mod EngineRules
 pub mod EngineAppend
 pub mod EngineDispatch
 pub mod Prepared
+pub mod Sized
+pub mod SizedRules
+pub mod Sound
