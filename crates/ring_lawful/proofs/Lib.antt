@@ -11,3 +11,5 @@ pub mod Prepared
 pub mod Sized
 pub mod SizedRules
 pub mod Sound
+pub mod Leads
+pub mod LeadsRules

@@ -77,7 +77,7 @@ pub all_join : {X : Type 0} (p : X → Bool) (xs ys : List X) → list_all p xs 
 all_join p [] ys a b = b
 all_join p (x ∷ xs) ys a b = let z = both_true (p x) (list_all p xs) a in let y = z.0 in rw y (all_join p xs ys z.1 b)
 
-all_filter : {X : Type 0} (p q : X → Bool) (xs : List X) → list_all p xs ≡ true → list_all p (filter q xs) ≡ true
+pub all_filter : {X : Type 0} (p q : X → Bool) (xs : List X) → list_all p xs ≡ true → list_all p (filter q xs) ≡ true
 all_filter p q [] t = refl
 all_filter p q (x ∷ xs) t = go (q x) refl (both_true (p x) (list_all p xs) t).0 (all_filter p q xs (both_true (p x) (list_all p xs) t).1)
   where
