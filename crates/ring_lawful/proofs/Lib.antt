@@ -13,3 +13,4 @@ pub mod SizedRules
 pub mod Sound
 pub mod Leads
 pub mod LeadsRules
+pub mod Lawful

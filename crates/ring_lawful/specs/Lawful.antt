@@ -10,7 +10,7 @@ use Rattle.ring_model.specs.declared.nodes.Peer.{Peer}
 use Rattle.ring_model.specs.declared.nodes.Role.TheVariants.{Candidate, Leader}
 use Rattle.ring_model.specs.Runs.{Move, world, IsRun}
 use Rattle.ring_model.specs.Actions.{pairs_in, entries_between}
-use Rattle.ring_model.specs.Nodes.{IsSound, ArePairsAbove, kept_pairs, is_ready}
+use Rattle.ring_model.specs.Nodes.{IsLawful, IsSound, ArePairsAbove, kept_pairs, is_ready}
 use Rattle.ring_model.specs.Safety.{Runs, PreparedAgrees}
 
 -- ---- order
@@ -59,3 +59,7 @@ EveryNodeIsSound = (ring : Layout) (run : List Move) → IsRun ring run → (id 
 -- a candidate's log has room for the NoOp with which it may lead
 abbrev pub EveryRunKeepsCandidatesShort : Type 0
 EveryRunKeepsCandidatesShort = (ring : Layout) (run : List Move) → IsRun ring run → (id : ℕ) (s : Soft) → Runs (world ring run) id s → s.role ≡ Candidate → length ((world ring run).nodes id).durable.log < 2 ^ 62 - 1
+
+-- ---- lawful
+abbrev pub EveryRunningNodeIsLawful : Type 0
+EveryRunningNodeIsLawful = (ring : Layout) (run : List Move) → IsRun ring run → (id : ℕ) (s : Soft) → Runs (world ring run) id s → IsLawful ring id ((world ring run).nodes id).durable s
