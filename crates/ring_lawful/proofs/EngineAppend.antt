@@ -64,7 +64,7 @@ engine_log (suc n) a d l pairs =
     ap (λ (w : Durable). w.log) (done_join d (prepare_entry pairs (entry_at l (suc a))) (action.Commit (suc a) ∷ engine_actions l pairs (suc a) n))
     ∙ (engine_log n (suc a) (done e (action.Commit (suc a))) l pairs ∙ prepare_log d pairs (entry_at l (suc a)))
 
-follow_log : (ring : Layout) (me : ℕ) (d : Durable) (c : ℕ) → (all_done d (follow_actions ring me d c)).log ≡ d.log
+pub follow_log : (ring : Layout) (me : ℕ) (d : Durable) (c : ℕ) → (all_done d (follow_actions ring me d c)).log ≡ d.log
 follow_log ring me d c = go (runs_engine ring me)
   where
     go : (b : Bool) → (all_done d (if b then engine_actions d.log d.prepared d.applied (c - d.applied) else [])).log ≡ d.log

@@ -277,7 +277,7 @@ answered_both ring me from answer d s = go (counts d s answer && answer.ok)
     go true = record { engine = λ runs r. (let x = b.engine runs r in record { along = x.along; after = x.after }); tail = b.tail }
     go false = b
 
-write_is_ready : (ring : Layout) (me : ℕ) (d : Durable) (s : Soft) (changes : List Change) → write_refusal ring me d s changes ≡ None → (is_ready s ≡ true) × (runs_engine ring me ≡ true)
+pub write_is_ready : (ring : Layout) (me : ℕ) (d : Durable) (s : Soft) (changes : List Change) → write_refusal ring me d s changes ≡ None → (is_ready s ≡ true) × (runs_engine ring me ≡ true)
 unfolding write_refusal
 write_is_ready ring me d s changes is = go (is_leader s.role) refl (nat_le s.ready_at s.commit) refl (runs_engine ring me) refl
   where
@@ -287,7 +287,7 @@ write_is_ready ring me d s changes is = go (is_leader s.role) refl (nat_le s.rea
     go true x true y false z = absurd (let u = rw (x, y, z) at is in cc)
     go true x true y true z = (rw (x, y) refl, z)
 
-rotate_is_ready : (ring : Layout) (me : ℕ) (d : Durable) (s : Soft) → rotate_refusal ring me d s ≡ None → is_ready s ≡ true
+pub rotate_is_ready : (ring : Layout) (me : ℕ) (d : Durable) (s : Soft) → rotate_refusal ring me d s ≡ None → is_ready s ≡ true
 unfolding rotate_refusal
 rotate_is_ready ring me d s is = go (is_leader s.role) refl (nat_le s.ready_at s.commit) refl
   where

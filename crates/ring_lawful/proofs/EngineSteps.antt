@@ -83,7 +83,7 @@ followed_clean d k c actions x high f = record {
   prepared = f.prepared ∙ (ap (λ (l : List Entry). pairs_in (entries_between l c k)) (sym f.same) ∙ ap (λ (n : ℕ). pairs_in (entries_between (all_done d actions).log n k)) (sym f.applied));
 }
 
-greatest_bounds : (test : ℕ → Bool) (floor n top : ℕ) → floor ≤ top → n ≤ top → (floor ≤ greatest test floor n) × (greatest test floor n ≤ top)
+pub greatest_bounds : (test : ℕ → Bool) (floor n top : ℕ) → floor ≤ top → n ≤ top → (floor ≤ greatest test floor n) × (greatest test floor n ≤ top)
 greatest_bounds test floor zero top low high = (omega arith, low)
 greatest_bounds test floor (suc n) top low high = go (nat_le (suc n) floor) refl (test (suc n)) refl (greatest_bounds test floor n top low (omega arith))
   where

@@ -8,3 +8,9 @@ pub mod EngineRules
 pub mod EngineAppend
 pub mod EngineDispatch
 pub mod Prepared
+pub mod Sized
+pub mod SizedRules
+pub mod Sound
+pub mod Leads
+pub mod LeadsRules
+pub mod Lawful

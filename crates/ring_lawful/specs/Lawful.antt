@@ -1,5 +1,5 @@
 -- What holds of each node in every world of every run, part by part.
-use Rattle.std.specs.Prelude.{◌≡◌, ℕ, ◌≤◌, ◌<◌, ◌+◌, true, false, List, [], length, Option, Some}
+use Rattle.std.specs.Prelude.{◌≡◌, ℕ, ◌≤◌, ◌<◌, ◌+◌, ◌-◌, ◌^◌, true, false, List, [], length, Option, Some}
 use Rattle.std.specs.List.{Contains}
 use Rattle.ring_types.specs.declared.entries.Entry.{Entry}
 use Rattle.ring_types.specs.Rings.{Layout, runs_engine}
@@ -7,10 +7,10 @@ use Rattle.ring_types.specs.Logs.{entry_at, last, term_at}
 use Rattle.ring_model.specs.declared.nodes.Durable.{Durable}
 use Rattle.ring_model.specs.declared.nodes.Soft.{Soft}
 use Rattle.ring_model.specs.declared.nodes.Peer.{Peer}
-use Rattle.ring_model.specs.declared.nodes.Role.TheVariants.{Leader}
+use Rattle.ring_model.specs.declared.nodes.Role.TheVariants.{Candidate, Leader}
 use Rattle.ring_model.specs.Runs.{Move, world, IsRun}
 use Rattle.ring_model.specs.Actions.{pairs_in, entries_between}
-use Rattle.ring_model.specs.Nodes.{ArePairsAbove, kept_pairs, is_ready}
+use Rattle.ring_model.specs.Nodes.{IsLawful, IsSound, ArePairsAbove, kept_pairs, is_ready}
 use Rattle.ring_model.specs.Safety.{Runs, PreparedAgrees}
 
 -- ---- order
@@ -51,3 +51,15 @@ abbrev pub EveryNodeKeepsPairs : Type 0
 EveryNodeKeepsPairs = (ring : Layout) (run : List Move) → IsRun ring run
     → ((id : ℕ) → KeepsPairs ring id ((world ring run).nodes id).durable)
     × ((id : ℕ) (s : Soft) → Runs (world ring run) id s → RunsEngine ring id ((world ring run).nodes id).durable s)
+
+-- ---- sound
+abbrev pub EveryNodeIsSound : Type 0
+EveryNodeIsSound = (ring : Layout) (run : List Move) → IsRun ring run → (id : ℕ) → IsSound ring id ((world ring run).nodes id).durable
+
+-- a candidate's log has room for the NoOp with which it may lead
+abbrev pub EveryRunKeepsCandidatesShort : Type 0
+EveryRunKeepsCandidatesShort = (ring : Layout) (run : List Move) → IsRun ring run → (id : ℕ) (s : Soft) → Runs (world ring run) id s → s.role ≡ Candidate → length ((world ring run).nodes id).durable.log < 2 ^ 62 - 1
+
+-- ---- lawful
+abbrev pub EveryRunningNodeIsLawful : Type 0
+EveryRunningNodeIsLawful = (ring : Layout) (run : List Move) → IsRun ring run → (id : ℕ) (s : Soft) → Runs (world ring run) id s → IsLawful ring id ((world ring run).nodes id).durable s

@@ -1,4 +1,4 @@
-ghost use Rattle.ring_lawful.specs.Lawful.{EveryNodeKeepsOrder, EveryNodeKeepsPairs, EveryRunPreparesInOrder};
+ghost use Rattle.ring_lawful.specs.Lawful.{EveryNodeIsSound, EveryNodeKeepsOrder, EveryNodeKeepsPairs, EveryRunPreparesInOrder, EveryRunningNodeIsLawful};
 
 /// In the world after any run of any ring each node's log has its entries in their places, with terms
 /// that do not fall and are at most the node's own; what it applied is in its log; and on a running
@@ -21,4 +21,14 @@ pub fn law_pairs()
 /// logtailer has none.
 pub fn law_prepared_agrees()
     ensures { EveryRunPreparesInOrder }
+{}
+
+/// In the world after any run of any ring the durable part of each node, running or down, is sound.
+pub fn law_sound()
+    ensures { EveryNodeIsSound }
+{}
+
+/// In the world after any run of any ring each running node is lawful.
+pub fn law_lawful()
+    ensures { EveryRunningNodeIsLawful }
 {}

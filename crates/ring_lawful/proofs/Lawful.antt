@@ -1,0 +1,84 @@
+-- In every world of every run each running node is lawful.
+use Rattle.std.proofs.Common.{◌≡◌, ℕ, ◌+◌, ◌<◌, ◌≤◌, ◌⊎◌, [], ◌∷◌, ◌∙◌, Bool, List, Some, ap, arith, false, inl, inr, length, refl, subst, suc, sym, take, true, zero}
+use Rattle.std.proofs.lemmas.Bool.Decides.{nat_tests}
+use Rattle.std.proofs.lemmas.List.Elements.{Contains-get_or}
+use Rattle.std.specs.Prelude.{nat_le, slice_index_or}
+use Rattle.std.specs.List.{All, Contains, list_all}
+use Rattle.ring_types.specs.declared.entries.Entry.{Entry}
+use Rattle.ring_types.specs.Rings.{Layout}
+use Rattle.ring_model.specs.declared.messages.Message.{Message}
+use Rattle.ring_model.specs.declared.nodes.Durable.{Durable}
+use Rattle.ring_model.specs.declared.nodes.Peer.{Peer}
+use Rattle.ring_model.specs.declared.nodes.Pending.{Pending}
+use Rattle.ring_model.specs.declared.nodes.Role.TheVariants.{Candidate, Follower, Leader}
+use Rattle.ring_model.specs.declared.nodes.Soft.{Soft}
+use Rattle.ring_model.specs.Actions.{all_done}
+use Rattle.ring_model.specs.Dispatch.{step}
+use Rattle.ring_model.specs.Nodes.{IsLawful, IsPendingIn, PeerFits, fresh_soft, is_leader, is_ready, recover}
+use Rattle.ring_model.specs.Runs.{Move, world}
+use Rattle.ring_model.proofs.Invariant.{History, IsHistory, IsNode, IsRunning}
+use Rattle.ring_model.proofs.Lists.{all_of}
+use Rattle.ring_lawful.specs.Lawful.{EveryRunningNodeIsLawful, KeepsCounts, RunsEngine}
+use Rattle.ring_lawful.proofs.Carry.{Holds, IsKeptByAll, StepKeeps, holds_always}
+use Rattle.ring_lawful.proofs.Leads.{LeaderFits, SoftFits, increasing, stands}
+use Rattle.ring_lawful.proofs.LeadsRules.{step_soft}
+use Rattle.ring_lawful.proofs.Order.{every_node_keeps_order, running_counts}
+use Rattle.ring_lawful.proofs.Prepared.{every_node_keeps_pairs}
+use Rattle.ring_lawful.proofs.Sound.{every_node_is_sound, every_run_keeps_candidates_short}
+
+abbrev Anything : ℕ → Durable → Type 0
+Anything id d = Unit {0}
+
+abbrev SoftAt : Layout → ℕ → Durable → Soft → Type 0
+SoftAt ring id d s = SoftFits ring id d.log s
+
+abbrev Sent : Message → Type 0
+Sent m = Unit {0}
+
+soft_kept : (ring : Layout) → IsKeptByAll ring Anything (SoftAt ring) Sent
+soft_kept ring = record {
+  first = λ id. tt;
+  steps = λ h id d s i k n r given sent x y. record { cut = λ c. tt; whole = tt; soft = step_soft ring id d s i y (running_counts ring h id d s r).commit_inside; sent = λ m in_m. tt };
+  recovers = λ h id d n x. tt;
+  partly = λ h id d n k x. tt;
+  starts = λ h id d n x. stands ring id d.log (fresh_soft d) refl (λ v. refl) refl refl tt;
+}
+
+soft_always : (ring : Layout) (run : List Move) → Holds Anything (SoftAt ring) Sent (world ring run)
+soft_always ring run = holds_always ring Anything (SoftAt ring) Sent (soft_kept ring) run
+
+all_from : {X : Type 0} (P : X → Type 0) (xs : List X) → ((x : X) → Contains xs x → P x) → All P xs
+all_from P xs each k d lt = each (slice_index_or xs k d) (Contains-get_or xs k d lt)
+
+peer_fits : (len : ℕ) (p : Peer) → (p.matched < p.next) × (p.next ≤ len + 1) → nat_le p.silent 3 ≡ true → PeerFits len p
+peer_fits len p near quiet = (near.0, near.1, grind (arith, nat_tests, quiet))
+
+unready : (s : Soft) (n : ℕ) → is_leader s.role ≡ true → (nat_le s.ready_at s.commit ≡ true) ⊎ (s.ready_at ≡ n) → is_ready s ≡ false → s.ready_at ≡ n
+unready s n led (inr end) is = end
+unready s n led (inl before) is = absurd (let z : is_ready s ≡ true = rw (led, before) refl in let y : true ≡ false = sym z ∙ is in cc)
+
+pub every_running_node_is_lawful : EveryRunningNodeIsLawful
+every_running_node_is_lawful ring run lawful id s up =
+    let d : Durable = ((world ring run).nodes id).durable in
+    let x : SoftFits ring id d.log s = (soft_always ring run).running id s up in
+    let c : KeepsCounts d s = (every_node_keeps_order ring run lawful).1 id s up in
+    let p : RunsEngine ring id d s = (every_node_keeps_pairs ring run lawful).1 id s up in
+    record {
+      sound = every_node_is_sound ring run lawful id;
+      pairs_in_log = p.pairs_in_log;
+      commit_above = c.commit_above;
+      commit_inside = c.commit_inside;
+      engine_follows = p.engine_follows;
+      learner_follows = x.learner;
+      candidate_short = every_run_keeps_candidates_short ring run lawful id s up;
+      leads_alone = x.alone;
+      peers_are_others = λ role. (x.leads (ap is_leader role)).others;
+      peers_fit = λ role. all_from (PeerFits (length d.log)) s.peers (λ q in_q. peer_fits (length d.log) q (c.peers_near role q in_q) (all_of (λ (q : Peer). nat_le q.silent 3) s.peers q (x.leads (ap is_leader role)).silent in_q));
+      ready_inside = λ role. (let l = x.leads (ap is_leader role) in (l.low, l.inside));
+      unready_ends = λ role is. unready s (length d.log) (ap is_leader role) (x.leads (ap is_leader role)).ends is;
+      all_prepared = p.all_prepared;
+      pending_in_log = λ role. all_from (IsPendingIn d.log s.commit) s.pending (x.leads (ap is_leader role)).waits;
+      pending_rises = increasing s.pending x.rises;
+      transfer_fits = x.transfer;
+      mock_fits = x.mock;
+    }

@@ -1,0 +1,5 @@
+use Rattle.ring_lawful.proofs.Lawful.{every_running_node_is_lawful}
+use Rattle.ring_lawful.proofs.laws.law_lawful.Goals as goal
+
+pub returns : goal.returns
+returns c = every_running_node_is_lawful

@@ -1,0 +1,5 @@
+use Rattle.ring_lawful.proofs.Sound.{every_node_is_sound}
+use Rattle.ring_lawful.proofs.laws.law_sound.Goals as goal
+
+pub returns : goal.returns
+returns c = every_node_is_sound
