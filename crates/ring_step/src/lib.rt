@@ -12,6 +12,8 @@ mod needs;
 mod places;
 mod quorums;
 mod steps;
+#[cfg(test)]
+mod tests;
 mod writes;
 
 pub use actions::{

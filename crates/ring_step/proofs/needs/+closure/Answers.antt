@@ -1,4 +1,4 @@
-use Rattle.std.proofs.Common.{◌≡◌, ℕ, suc, ◌+◌, ◌-◌, ◌<◌, List, ◌++◌, length, filter, IfOk, ap, subst, sym, ◌∙◌, arith}
+use Rattle.std.proofs.Common.{◌≡◌, ℕ, suc, ◌-◌, ◌<◌, List, ◌++◌, length, filter, IfOk, ap, subst, sym, ◌∙◌, arith}
 use Rattle.ring_model.specs.Needs as spec
 use Rattle.ring_model.specs.Needs.{Report}
 use Rattle.ring_step.proofs.Closing.{closure-some}

@@ -1,5 +1,5 @@
 -- the greatest up to this position is the greatest of all
-use Rattle.std.proofs.Common.{◌≡◌, length}
+use Rattle.std.proofs.Common.{◌≡◌}
 use Rattle.ring_model.specs.Steps as spec
 use Rattle.ring_step.proofs.steps.commit_count.Given as goal
 

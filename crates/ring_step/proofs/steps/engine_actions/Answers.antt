@@ -1,4 +1,4 @@
-use Rattle.std.proofs.Common.{◌≡◌, ℕ, suc, ◌+◌, ◌-◌, List, [], ◌∷◌, ◌++◌, ap, ◌∙◌, arith, add-one}
+use Rattle.std.proofs.Common.{◌≡◌, suc, ◌+◌, ◌-◌, List, [], ◌∷◌, ◌++◌, ap, ◌∙◌, arith}
 use Rattle.ring_types.specs.Logs.{entry_at}
 use Rattle.ring_model.specs.Steps as spec
 use Rattle.ring_model.specs.declared.effects.Action.{Action}

@@ -1,0 +1,10 @@
+//! Elections and writes whose every action is worked out by hand from the rules.
+//!
+//! Each test is a few calls of small functions that hand on what they make: the proof of a function
+//! costs most where it lets go of several values or borrows them.
+mod commits;
+mod elections;
+mod fixtures;
+mod needs;
+mod refusals;
+mod writes;
