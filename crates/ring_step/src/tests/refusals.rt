@@ -10,7 +10,7 @@ const HELD: Opid = Opid {
     position: 2,
 };
 
-/// A node with a prepared transaction of the row 5.
+/// A node with a prepared transaction whose key is 5.
 fn before(rt: &(impl AllocGlobal + Abort)) -> Durable {
     let held = Pair {
         opid: HELD,
@@ -37,7 +37,7 @@ fn says_of(step: Step) -> List<Say> {
     step.plan.says
 }
 
-/// What is said to a client that inserts the row 5 into the table.
+/// What is said to a client that inserts key 5 into the table.
 fn told(rt: &(impl AllocGlobal + Abort), ring: Ring, now: Soft, table: &str) -> List<Say> {
     says_of(write_step(rt, ring, before(rt), now, insert(rt, table, 5)))
 }
@@ -81,7 +81,7 @@ fn invalid_before_locked(rt: HostRuntime) {
     same(&rt, told, refused(&rt, Cause::Invalid(RowRefusal::NoTable)));
 }
 
-/// The row 5 of `t` is locked by the prepared transaction.
+/// Key 5 of `t` is locked by the prepared transaction.
 fn locked(rt: &(impl AllocGlobal + Abort)) -> Cause {
     Cause::Locked {
         table: text(rt, "t"),

@@ -96,7 +96,7 @@ const SECOND: Opid = Opid {
     position: 2,
 };
 
-/// The transaction of the row 5 is prepared, and its entry added.
+/// The transaction with key 5 is prepared, and its entry added.
 fn prepares(rt: &(impl AllocGlobal + Abort)) -> List<Action> {
     let held = Pair {
         opid: SECOND,
