@@ -87,7 +87,7 @@ cut_then e k kept more x low high placed =
     let c = cut_pairs e.log e.applied kept k low x.placed in
     let r = rolled_pairs e.log e.applied kept k low x.placed in
     let has_a : HasPairs a = subst (ArePairsAbove (take kept e.log) e.applied) (sym (ap (filter (λ (p : Pair). has_opid (take kept e.log) p.opid)) x.prepared ∙ c.3))
-        (above (take kept e.log) e.applied c.0 (omega (arith, n, low)) (let y = c.1 in omega (arith, n, y))) in
+    (above (take kept e.log) e.applied c.0 (omega (arith, n, low)) (let y = c.1 in omega (arith, n, y))) in
     let clean_b : Clean b r.0 = record {
       placed = placed_take e.log kept x.placed;
       applied = omega (arith, n, low);
@@ -158,8 +158,8 @@ accept_engine ring me d s first says sent runs r fits =
     let is : take_in ring me e kept rest ≡ acts = take_in_same ring me kept d e rest r.same in
     let l : (all_done e (acts ++ more)).log ≡ f.log = ap (λ (w : Durable). w.log) (done_join e acts more) ∙ follow_log ring me f c in
     let t : Taken e acts = subst (λ (w : List Action). Taken e w) is (taken_clean ring me e kept r.k rest more runs r.clean
-        (subst (λ (w : List Action). Placed (all_done e w).log) (sym is) (subst Placed l own.placed))
-        (subst (λ (w : List Action). (n : ℕ) → (all_done e (take n (w ++ more))).applied ≤ length (all_done e (take n (w ++ more))).log) (sym is) own.cuts)) in
+    (subst (λ (w : List Action). Placed (all_done e w).log) (sym is) (subst Placed l own.placed))
+    (subst (λ (w : List Action). (n : ℕ) → (all_done e (take n (w ++ more))).applied ≤ length (all_done e (take n (w ++ more))).log) (sym is) own.cuts)) in
     let high : c ≤ length f.log = subst (λ (w : List Entry). c ≤ length w) l own.inside in
     let low : f.applied ≤ c = (let a = t.applied in let b = r.follows in let z = greater_high s.commit (smaller_of sent.commit m) in omega (arith, a, b, z)) in
     let y = follow_clean ring me f c t.k runs t.clean low high in

@@ -174,8 +174,12 @@ reply_both ring me from reply d s = go s.role
     hears true = raise_both ring me reply.term d s [] (unknowns s)
     hears false = count (reply.granted && reply.term == d.term && not (has_granted s.grants from))
 
-    go : (r : Role) → Both ring me d s (elim r [ Follower ↦ idle s | Candidate ↦ (if nat_lt d.term reply.term then stepped (action.SetTerm reply.term ∷ []) [] (unknowns s) (demoted s)
-        else (if reply.granted && reply.term == d.term && not (has_granted s.grants from) then lead_or_ask ring me d s [] [] (s.grants ++ record { voter = from; votes = reply.votes } ∷ []) [] else idle s)) | Leader ↦ idle s ])
+    go : (r : Role) → Both ring me d s (elim r [
+      | Follower ↦ idle s
+      | Candidate ↦ (if nat_lt d.term reply.term then stepped (action.SetTerm reply.term ∷ []) [] (unknowns s) (demoted s)
+          else (if reply.granted && reply.term == d.term && not (has_granted s.grants from) then lead_or_ask ring me d s [] [] (s.grants ++ record { voter = from; votes = reply.votes } ∷ []) [] else idle s))
+      | Leader ↦ idle s
+    ])
     go Follower = idle_both ring me d s
     go Candidate = hears (nat_lt d.term reply.term)
     go Leader = idle_both ring me d s

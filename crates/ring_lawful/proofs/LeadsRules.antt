@@ -96,8 +96,12 @@ reply_soft ring me from reply d s x inside = go s.role refl
     hears role true = demoted_fits ring me d.log s
     hears role false = count role (reply.granted && reply.term == d.term && not (has_granted s.grants from))
 
-    go : (r : Role) → s.role ≡ r → SoftStep ring me d (elim r [ Follower ↦ idle s | Candidate ↦ (if nat_lt d.term reply.term then stepped (action.SetTerm reply.term ∷ []) [] (unknowns s) (demoted s)
-        else (if reply.granted && reply.term == d.term && not (has_granted s.grants from) then lead_or_ask ring me d s [] [] (s.grants ++ record { voter = from; votes = reply.votes } ∷ []) [] else idle s)) | Leader ↦ idle s ])
+    go : (r : Role) → s.role ≡ r → SoftStep ring me d (elim r [
+      | Follower ↦ idle s
+      | Candidate ↦ (if nat_lt d.term reply.term then stepped (action.SetTerm reply.term ∷ []) [] (unknowns s) (demoted s)
+          else (if reply.granted && reply.term == d.term && not (has_granted s.grants from) then lead_or_ask ring me d s [] [] (s.grants ++ record { voter = from; votes = reply.votes } ∷ []) [] else idle s))
+      | Leader ↦ idle s
+    ])
     go Follower role = x
     go Candidate role = hears role (nat_lt d.term reply.term)
     go Leader role = x

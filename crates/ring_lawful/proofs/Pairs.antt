@@ -246,7 +246,7 @@ filter_up_to log g a m k low placed on off = elim (cases_lt m k) [
     omega arith,
     omega (arith, lt),
     ap (λ (xs : List Entry). filter (λ (p : Pair). g p.opid) (pairs_in xs)) (between_split log a m k low (omega arith))
-    ∙ filter_first g (entries_between log a m) (entries_between log m k) (λ e c. let y = in_between log a m e placed c in on e y.0 y.2) (λ e c. let y = in_between log m k e placed c in off e y.1),
+        ∙ filter_first g (entries_between log a m) (entries_between log m k) (λ e c. let y = in_between log a m e placed c in on e y.0 y.2) (λ e c. let y = in_between log m k e placed c in off e y.1),
   )
   | inr ge ↦ (k, ge, omega arith, filter_on g (entries_between log a k) (λ e c. let y = in_between log a k e placed c in on e y.0 (omega (arith, y.2, ge))))
 ]

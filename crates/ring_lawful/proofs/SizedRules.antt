@@ -154,8 +154,12 @@ reply_keeps ring me from reply d s x short fits = go s.role refl
     hears role true is = raise_keeps ring reply.term d s [] (unknowns s) (grind (arith, nat_tests, is)) fits tt
     hears role false is = count role (reply.granted && reply.term == d.term && not (has_granted s.grants from))
 
-    go : (r : Role) → s.role ≡ r → Keeps ring d (elim r [ Follower ↦ idle s | Candidate ↦ (if nat_lt d.term reply.term then stepped (action.SetTerm reply.term ∷ []) [] (unknowns s) (demoted s)
-        else (if reply.granted && reply.term == d.term && not (has_granted s.grants from) then lead_or_ask ring me d s [] [] (s.grants ++ record { voter = from; votes = reply.votes } ∷ []) [] else idle s)) | Leader ↦ idle s ])
+    go : (r : Role) → s.role ≡ r → Keeps ring d (elim r [
+      | Follower ↦ idle s
+      | Candidate ↦ (if nat_lt d.term reply.term then stepped (action.SetTerm reply.term ∷ []) [] (unknowns s) (demoted s)
+          else (if reply.granted && reply.term == d.term && not (has_granted s.grants from) then lead_or_ask ring me d s [] [] (s.grants ++ record { voter = from; votes = reply.votes } ∷ []) [] else idle s))
+      | Leader ↦ idle s
+    ])
     go Follower role = idle_keeps ring d s short
     go Candidate role = hears role (nat_lt d.term reply.term) refl
     go Leader role = idle_keeps ring d s short

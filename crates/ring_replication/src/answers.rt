@@ -1,11 +1,8 @@
-ghost use Rattle.std.specs.Prelude.{◌≡◌, ℕ, ◌+◌, ◌≤◌, ◌∷◌, [], true, false, IfOk, length};
-ghost use Rattle.ring_model.specs.Steps as steps;
-ghost use Rattle.ring_model.specs.declared.effects.Action.TheVariants as action;
+ghost use Rattle.std.specs.Prelude.{◌≡◌, ℕ, ◌+◌, ◌≤◌, true, false, IfOk, length};
 ghost use Rattle.ring_model.specs.Replication as spec;
 
-use crate::appends::new_term;
 use ring_model::{AppendReply, Durable, Peer, Soft, Step};
-use ring_step::{advance, demoted, idle, is_leader, stepped, unknowns};
+use ring_step::{adopt_term, advance, idle, is_leader};
 use ring_types::{Duplicate, Entry, List, Memory, NodeId, Ring};
 use std::alloc::{AllocError, Global};
 
@@ -123,15 +120,6 @@ fn leader_hears(
     )
 }
 
-fn steps_down(alloc: Global, soft: &Soft, term: u64) -> Result<Step, Memory>
-    ensures { IfOk result (λ it. it ≡ steps.stepped (action.SetTerm term ∷ []) [] (steps.unknowns soft.now) (steps.demoted soft.now)) }
-{
-    let actions = new_term(alloc, term)?;
-    let says = unknowns(alloc, soft)?;
-    let soft = demoted(alloc, soft.copy(alloc)?);
-    Ok(stepped(actions, List::new(alloc), says, soft))
-}
-
 /// The step of a leader that hears the answer of the member `from`, but for a transfer under way.
 #[tactic(auto, unfolding(ring_model::specs::Replication::on_ack))]
 pub fn on_ack(
@@ -146,7 +134,7 @@ pub fn on_ack(
     ensures { IfOk result (λ it. it ≡ spec.on_ack ring.now me durable.now soft.now from answer.now) }
 {
     if durable.term < answer.term {
-        steps_down(alloc, soft, answer.term)
+        adopt_term(alloc, soft, answer.term)
     } else if counts(durable, soft, answer) {
         leader_hears(alloc, ring, me, durable, soft, from, answer)
     } else {

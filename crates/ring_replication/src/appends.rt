@@ -147,7 +147,7 @@ fn match_append(
 }
 
 /// The one action that adopts a term.
-pub(crate) fn new_term(alloc: Global, term: u64) -> Result<List<Action>, Memory>
+fn new_term(alloc: Global, term: u64) -> Result<List<Action>, Memory>
     ensures { IfOk result (λ it. it ≡ action.SetTerm term ∷ []) }
 {
     let mut actions = List::new(alloc);

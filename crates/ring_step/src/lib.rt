@@ -25,7 +25,8 @@ pub use needs::{Report, closure, need, reports, votes_between, wins};
 pub use places::{has_engine, is_voter, region_of, runs_engine, server_of};
 pub use quorums::{commits, covers, is_listed, zone};
 pub use steps::{
-    advance, commit_count, committeds, demoted, engine_actions, follow_actions, holders, idle,
-    is_leader, is_ready, may_commit, own_entry, stepped, unknowns, waiting, with_append,
+    adopt_term, advance, commit_count, committeds, demoted, engine_actions, follow_actions,
+    holders, idle, is_leader, is_ready, may_commit, own_entry, stepped, unknowns, waiting,
+    with_append,
 };
-pub use writes::{lock_of, rotate, write};
+pub use writes::{lock_of, refused, rotate, write};

@@ -85,6 +85,17 @@ pub fn unknowns(alloc: Global, soft: &Soft) -> Result<List<Say>, Memory>
     Ok(says)
 }
 
+/// The step of a node that hears of a greater term: it takes the term and steps down.
+pub fn adopt_term(alloc: Global, soft: &Soft, term: u64) -> Result<Step, Memory>
+    ensures { IfOk result (λ it. it ≡ spec.stepped (action.SetTerm term ∷ []) [] (spec.unknowns soft.now) (spec.demoted soft.now)) }
+{
+    let mut actions = List::new(alloc);
+    actions.push(Action::SetTerm(term))?;
+    let says = unknowns(alloc, soft)?;
+    let soft = demoted(alloc, soft.copy(alloc)?);
+    Ok(stepped(actions, List::new(alloc), says, soft))
+}
+
 /// The members that have matched a position, in order.
 pub fn holders(alloc: Global, position: u64, peers: &[Peer]) -> Result<List<NodeId>, Memory>
     ensures { IfOk result (λ it. it ≡ spec.holders position peers.now) }

@@ -20,7 +20,8 @@ const LENGTH_LIMIT: u64 = 4611686018427387903;
 
 const FILE_LIMIT: u64 = 999999;
 
-fn refused(alloc: Global, soft: Soft, client: u32, cause: Cause) -> Result<Step, Memory>
+/// The step in which one refusal is said to a client, and nothing else happens.
+pub fn refused(alloc: Global, soft: Soft, client: u32, cause: Cause) -> Result<Step, Memory>
     ensures { IfOk result (λ it. it ≡ spec.refused soft client cause) }
 {
     let mut says = List::new(alloc);

@@ -1,22 +1,14 @@
 ghost use Rattle.std.specs.Prelude.{◌≡◌, ◌-◌, ◌^◌, ◌<◌, None, IfOk};
 ghost use Rattle.ring_model.specs.Transfers as spec;
-ghost use Rattle.ring_model.specs.Writes.{refused};
 
 use crate::messages::{message, one_message, one_say};
 use ring_model::{Body, Cause, Durable, MockStart, Soft, Step, Transfer, What};
 use ring_plain::last;
-use ring_step::{idle, is_leader, is_ready, stepped};
+use ring_step::{idle, is_leader, is_ready, refused, stepped};
 use ring_types::{Duplicate, List, Memory, NodeId, Ring};
 use std::alloc::Global;
 
 const ROUND_LIMIT: u64 = 18446744073709551615;
-
-fn refused(alloc: Global, soft: Soft, client: u32, cause: Cause) -> Result<Step, Memory>
-    ensures { IfOk result (λ it. it ≡ refused soft client cause) }
-{
-    let says = one_say(alloc, client, What::Refused(cause))?;
-    Ok(stepped(List::new(alloc), List::new(alloc), says, soft))
-}
 
 fn is_off(transfer: Transfer) -> bool
     ensures { result ≡ spec.is_off transfer }

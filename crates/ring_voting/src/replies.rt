@@ -1,10 +1,8 @@
 ghost use Rattle.std.specs.Prelude.{◌≡◌, ◌^◌, ◌<◌, ◌++◌, ◌∷◌, [], IfOk, length};
-ghost use Rattle.ring_model.specs.Steps as steps;
-ghost use Rattle.ring_model.specs.declared.effects.Action.TheVariants as action;
 ghost use Rattle.ring_model.specs.Elections as spec;
 
-use ring_model::{Action, Durable, Role, Soft, Step, VoteReply};
-use ring_step::{demoted, idle, lead_or_ask, stepped, unknowns};
+use ring_model::{Durable, Role, Soft, Step, VoteReply};
+use ring_step::{adopt_term, idle, lead_or_ask};
 use ring_types::{Duplicate, Entry, Grant, List, Memory, NodeId, Ring};
 use std::alloc::Global;
 
@@ -76,17 +74,6 @@ fn count_grant(
     } else {
         Ok(idle(alloc, same))
     }
-}
-
-/// The step of a candidate that learns of a greater term.
-fn adopt_term(alloc: Global, soft: &Soft, term: u64) -> Result<Step, Memory>
-    ensures { IfOk result (λ it. it ≡ steps.stepped (action.SetTerm term ∷ []) [] (steps.unknowns soft.now) (steps.demoted soft.now)) }
-{
-    let mut actions = List::new(alloc);
-    actions.push(Action::SetTerm(term))?;
-    let says = unknowns(alloc, soft)?;
-    let soft = demoted(alloc, soft.copy(alloc)?);
-    Ok(stepped(actions, List::new(alloc), says, soft))
 }
 
 fn candidate_hears(
