@@ -8,6 +8,7 @@ pub mod EngineRules
 pub mod EngineAppend
 pub mod EngineDispatch
 pub mod Prepared
+pub mod Payloads
 pub mod Sized
 pub mod SizedRules
 pub mod Sound
