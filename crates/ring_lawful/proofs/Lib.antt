@@ -15,3 +15,4 @@ pub mod Sound
 pub mod Leads
 pub mod LeadsRules
 pub mod Lawful
+pub mod Possible

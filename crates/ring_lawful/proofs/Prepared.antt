@@ -34,17 +34,17 @@ use Rattle.ring_lawful.proofs.EngineSteps.{EngineRuns, EngineStep, stands_down}
 use Rattle.ring_lawful.proofs.Order.{placed_in}
 use Rattle.ring_lawful.proofs.Pairs.{none_between}
 
-abbrev IsEmpty : Durable → Type 0
+abbrev pub IsEmpty : Durable → Type 0
 IsEmpty d = (d.applied ≡ 0) × (d.prepared ≡ [])
 
-record Engine (ring : Layout) (id : ℕ) (d : Durable) : Type 0 where
-  engine : runs_engine ring id ≡ true → HasPairs d
-  tailer : runs_engine ring id ≡ false → IsEmpty d
+pub record Engine (ring : Layout) (id : ℕ) (d : Durable) : Type 0 where
+  pub engine : runs_engine ring id ≡ true → HasPairs d
+  pub tailer : runs_engine ring id ≡ false → IsEmpty d
 
-abbrev Running : Layout → ℕ → Durable → Soft → Type 0
+abbrev pub Running : Layout → ℕ → Durable → Soft → Type 0
 Running ring id d s = runs_engine ring id ≡ true → EngineRuns d s
 
-abbrev Nothing : Message → Type 0
+abbrev pub Nothing : Message → Type 0
 Nothing m = Unit {0}
 
 -- ---- a logtailer
@@ -143,7 +143,7 @@ engine_kept ring = record {
   starts = λ h id d n x runs. (let c = recovered ring h id d n (x.engine runs) in stands_down (recover d) (fresh_soft d) c.0 c.1 refl refl);
 }
 
-held : (ring : Layout) (run : List Move) → IsRun ring run → Holds (Engine ring) (Running ring) Nothing (world ring run)
+pub held : (ring : Layout) (run : List Move) → IsRun ring run → Holds (Engine ring) (Running ring) Nothing (world ring run)
 held ring run lawful = holds_always ring (Engine ring) (Running ring) Nothing (engine_kept ring) run lawful
 
 pub every_run_prepares_in_order : EveryRunPreparesInOrder

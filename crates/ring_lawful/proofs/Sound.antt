@@ -182,7 +182,7 @@ body_keeps ring me from d s (body.ClientTransfer target) x short f = transfer_ke
 body_keeps ring me from d s body.ClientCancel x short f = cancel_keeps ring from d s short
 body_keeps ring me from d s (body.ClientReply what) x short f = idle_keeps ring d s short
 
-step_keeps : (ring : Layout) (me : ℕ) (messages : List Message) (d : Durable) (s : Soft) (i : Input) → IsGiven messages me i → is_whole_input i ≡ true → ((m : Message) → Contains messages m → BodyFits ring m.body) → Sized ring d → IsShort d s → Keeps ring d (step ring me d s i)
+pub step_keeps : (ring : Layout) (me : ℕ) (messages : List Message) (d : Durable) (s : Soft) (i : Input) → IsGiven messages me i → is_whole_input i ≡ true → ((m : Message) → Contains messages m → BodyFits ring m.body) → Sized ring d → IsShort d s → Keeps ring d (step ring me d s i)
 step_keeps ring me messages d s input.Elect given whole fit x short = elect_keeps ring me d s x short
 step_keeps ring me messages d s input.Beat given whole fit x short = beat_keeps ring me d s x short
 step_keeps ring me messages d s (input.Deliver m) given whole fit x short = go (is_foreign ring me m)
@@ -196,13 +196,13 @@ step_keeps ring me messages d s (input.Transfer client target) given whole fit x
 step_keeps ring me messages d s (input.Cancel client) given whole fit x short = cancel_keeps ring client d s short
 
 -- ---- every step
-abbrev SizedAt : Layout → ℕ → Durable → Type 0
+abbrev pub SizedAt : Layout → ℕ → Durable → Type 0
 SizedAt ring id d = Sized ring d
 
-abbrev ShortAt : ℕ → Durable → Soft → Type 0
+abbrev pub ShortAt : ℕ → Durable → Soft → Type 0
 ShortAt id d s = IsShort d s
 
-abbrev FitsIn : Layout → Message → Type 0
+abbrev pub FitsIn : Layout → Message → Type 0
 FitsIn ring m = BodyFits ring m.body
 
 partly_sized : (ring : Layout) (d : Durable) (n : ℕ) (o : List Opid) → Sized ring d → Sized ring (all_done d (take n (elim o [ [] ↦ [] | o ∷ opids ↦ action.DropPairs (o ∷ opids) ∷ [] ])))
