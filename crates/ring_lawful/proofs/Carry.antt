@@ -5,7 +5,7 @@ use Rattle.std.specs.List.{Contains}
 use Rattle.ring_types.specs.Rings.{Layout, is_member}
 use Rattle.ring_model.specs.Worlds.{ComeUp, Completion, Cut, GoDown, Handle, Task, Whole, WorldState, at_node, ended, first_world, given, handled, line_step, member_turn, message_at, moved, next_given, next_to, passed, restart_actions, skipped, turn, turned, with_node, world_step}
 use Rattle.ring_model.specs.declared.nodes.Durable.{Durable}
-use Rattle.ring_model.specs.Runs.{Move, world, world_from}
+use Rattle.ring_model.specs.Runs.{IsRun, IsRunFrom, Move, is_known, is_whole_input, world, world_from}
 use Rattle.ring_model.specs.declared.messages.Input.{Input}
 use Rattle.ring_model.specs.declared.worlds.Line.{Line}
 use Rattle.ring_model.specs.declared.messages.Message.{Message}
@@ -17,7 +17,7 @@ use Rattle.ring_model.specs.Actions.{all_done}
 use Rattle.ring_model.specs.Dispatch.{step}
 use Rattle.ring_model.specs.declared.messages.Input.TheVariants as input
 use Rattle.ring_model.specs.declared.worlds.Line.TheVariants as line
-use Rattle.ring_model.proofs.Lists.{none_contained}
+use Rattle.ring_model.proofs.Lists.{both_true, none_contained}
 use Rattle.ring_model.proofs.Invariant.{History, IsHistory, IsNode, IsRunning}
 use Rattle.ring_model.proofs.Turns.{IsWorld, node_here, node_other}
 use Rattle.ring_model.proofs.Dispatch.{IsGiven}
@@ -33,7 +33,7 @@ pub record StepKeeps (D : Durable → Type 0) (R : Durable → Soft → Type 0) 
 -- a fact of durable parts, one of running nodes and one of messages that every step keeps
 pub record IsKeptByAll (ring : Layout) (D : ℕ → Durable → Type 0) (R : ℕ → Durable → Soft → Type 0) (M : Message → Type 0) : Type 0 where
   pub first : (id : ℕ) → D id empty_durable
-  pub steps : (h : History) (id : ℕ) (d : Durable) (s : Soft) (i : Input) → IsHistory ring h → IsNode ring h id d → IsRunning ring h id d s → IsGiven h.messages id i
+  pub steps : (h : History) (id : ℕ) (d : Durable) (s : Soft) (i : Input) → IsHistory ring h → IsNode ring h id d → IsRunning ring h id d s → IsGiven h.messages id i → is_whole_input i ≡ true
       → ((m : Message) → Contains h.messages m → M m) → D id d → R id d s → StepKeeps (D id) (R id) M d (step ring id d s i)
   pub recovers : (h : History) (id : ℕ) (d : Durable) → IsNode ring h id d → D id d → D id (recover d)
   pub partly : (h : History) (id : ℕ) (d : Durable) (n : ℕ) → IsNode ring h id d → D id d → D id (all_done d (take n (restart_actions d)))
@@ -44,6 +44,12 @@ pub record Holds (D : ℕ → Durable → Type 0) (R : ℕ → Durable → Soft 
   pub nodes : (id : ℕ) → D id (w.nodes id).durable
   pub running : (id : ℕ) (s : Soft) → (w.nodes id).soft ≡ Some s → R id (w.nodes id).durable s
   pub messages : (m : Message) → Contains w.messages m → M m
+
+-- a write that a task gives has a change
+abbrev IsWhole : Task → Type 0
+IsWhole (Handle i) = is_whole_input i ≡ true
+IsWhole GoDown = Unit {0}
+IsWhole ComeUp = Unit {0}
 
 in_join : {X : Type 0} (xs ys : List X) (x : X) (P : X → Type 0) → ((y : X) → Contains xs y → P y) → ((y : X) → Contains ys y → P y) → Contains (xs ++ ys) x → P x
 in_join [] ys x P a b c = b x c
@@ -83,13 +89,13 @@ module _ (ring : Layout) (D : ℕ → Durable → Type 0) (R : ℕ → Durable �
     messages = subst (λ (ms : List Message). (m : Message) → Contains ms m → M m) (sym messages) k.messages;
   }
 
-  handled_holds : (w : WorldState) (h : History) (id : ℕ) (i : Input) (completion : Completion) (o : Option Soft) → (w.nodes id).soft ≡ o → IsWorld ring w h → IsGiven w.messages id i → Holds D R M w
+  handled_holds : (w : WorldState) (h : History) (id : ℕ) (i : Input) (completion : Completion) (o : Option Soft) → (w.nodes id).soft ≡ o → IsWorld ring w h → IsGiven w.messages id i → is_whole_input i ≡ true → Holds D R M w
       → Holds D R M (handled ring w id i completion (w.nodes id).durable o)
-  handled_holds w h id i completion None up k given x = same_holds w (passed w) refl refl x
-  handled_holds w h id i completion (Some s) up k given x = go completion
+  handled_holds w h id i completion None up k given whole x = same_holds w (passed w) refl refl x
+  handled_holds w h id i completion (Some s) up k given whole x = go completion
     where
       kept : StepKeeps (D id) (R id) M (w.nodes id).durable (step ring id (w.nodes id).durable s i)
-      kept = all.steps h id (w.nodes id).durable s i k.history (k.nodes id) (k.running id s up) (subst (λ (ms : List Message). IsGiven ms id i) (sym k.messages) given)
+      kept = all.steps h id (w.nodes id).durable s i k.history (k.nodes id) (k.running id s up) (subst (λ (ms : List Message). IsGiven ms id i) (sym k.messages) given) whole
           (subst (λ (ms : List Message). (m : Message) → Contains ms m → M m) (sym k.messages) x.messages) (x.nodes id) (x.running id s up)
 
       go : (c : Completion) → Holds D R M (ended w id (w.nodes id).durable (step ring id (w.nodes id).durable s i) c)
@@ -101,27 +107,27 @@ module _ (ring : Layout) (D : ℕ → Durable → Type 0) (R : ℕ → Durable �
           let st = step ring id (w.nodes id).durable s i in
           turned_holds w id (record { durable = all_done (w.nodes id).durable (take count st.plan.actions); soft = None }) [] [] (count ∷ []) x (kept.cut count) (λ o so. absurd cc) (λ m in_m. absurd (none_contained m in_m))
 
-  turn_holds : (w : WorldState) (h : History) (id : ℕ) (task : Task) (completion : Completion) → IsWorld ring w h → MayTake w.messages id task → Holds D R M w → Holds D R M (turn ring w id task completion)
-  turn_holds w h id (Handle i) completion k given x = handled_holds w h id i completion (w.nodes id).soft refl k given x
-  turn_holds w h id GoDown completion k given x = turned_holds w id (record { durable = (w.nodes id).durable; soft = None }) [] [] [] x (x.nodes id) (λ o so. absurd cc) (λ m in_m. absurd (none_contained m in_m))
-  turn_holds w h id ComeUp Whole k given x =
+  turn_holds : (w : WorldState) (h : History) (id : ℕ) (task : Task) (completion : Completion) → IsWorld ring w h → MayTake w.messages id task → IsWhole task → Holds D R M w → Holds D R M (turn ring w id task completion)
+  turn_holds w h id (Handle i) completion k given whole x = handled_holds w h id i completion (w.nodes id).soft refl k given whole x
+  turn_holds w h id GoDown completion k given whole x = turned_holds w id (record { durable = (w.nodes id).durable; soft = None }) [] [] [] x (x.nodes id) (λ o so. absurd cc) (λ m in_m. absurd (none_contained m in_m))
+  turn_holds w h id ComeUp Whole k given whole x =
       turned_holds w id (record { durable = recover (w.nodes id).durable; soft = Some (fresh_soft (w.nodes id).durable) }) [] [] [] x (all.recovers h id (w.nodes id).durable (k.nodes id) (x.nodes id))
       (λ o so. let is : fresh_soft (w.nodes id).durable ≡ o = cc in subst (λ (y : Soft). R id (recover (w.nodes id).durable) y) is (all.starts h id (w.nodes id).durable (k.nodes id) (x.nodes id)))
       (λ m in_m. absurd (none_contained m in_m))
-  turn_holds w h id ComeUp (Cut count) k given x =
+  turn_holds w h id ComeUp (Cut count) k given whole x =
       turned_holds w id (record { durable = all_done (w.nodes id).durable (take count (restart_actions (w.nodes id).durable)); soft = None }) [] [] (count ∷ []) x (all.partly h id (w.nodes id).durable count (k.nodes id) (x.nodes id))
       (λ o so. absurd cc) (λ m in_m. absurd (none_contained m in_m))
 
-  member_holds : (w : WorldState) (h : History) (id : ℕ) (task : Task) (completion : Completion) → IsWorld ring w h → MayTake w.messages id task → Holds D R M w → Holds D R M (member_turn ring w id task completion)
-  member_holds w h id task completion k given x = go (is_member ring id)
+  member_holds : (w : WorldState) (h : History) (id : ℕ) (task : Task) (completion : Completion) → IsWorld ring w h → MayTake w.messages id task → IsWhole task → Holds D R M w → Holds D R M (member_turn ring w id task completion)
+  member_holds w h id task completion k given whole x = go (is_member ring id)
     where
       go : (b : Bool) → Holds D R M (if b then turn ring w id task completion else passed w)
-      go true = turn_holds w h id task completion k given x
+      go true = turn_holds w h id task completion k given whole x
       go false = same_holds w (passed w) refl refl x
 
   given_holds : (w : WorldState) (h : History) (completion : Completion) (number : ℕ) (o : Option Message) → message_at w.messages number ≡ o → IsWorld ring w h → Holds D R M w → Holds D R M (given ring w completion o)
   given_holds w h completion number None is k x = same_holds w (passed w) refl refl x
-  given_holds w h completion number (Some m) is k x = member_holds w h m.to (Handle (input.Deliver m)) completion k (in_number w.messages number m is, refl) x
+  given_holds w h completion number (Some m) is k x = member_holds w h m.to (Handle (input.Deliver m)) completion k (in_number w.messages number m is, refl) refl x
 
   next_holds : (w : WorldState) (h : History) (id : ℕ) (completion : Completion) (o : Option ℕ) → IsWorld ring w h → Holds D R M w → Holds D R M (next_given ring w id completion o)
   next_holds w h id completion None k x = same_holds w (passed w) refl refl x
@@ -132,31 +138,31 @@ module _ (ring : Layout) (D : ℕ → Durable → Type 0) (R : ℕ → Durable �
   skipped_holds w id None x = same_holds w (passed w) refl refl x
   skipped_holds w id (Some number) x = same_holds w (passed (moved w id number)) refl refl x
 
-  at_holds : (w : WorldState) (h : History) (id : ℕ) (i : Input) (completion : Completion) → IsWorld ring w h → Holds D R M w → Holds D R M (at_node ring w id i completion)
-  at_holds w h id (input.Deliver m) completion k x = same_holds w (passed w) refl refl x
-  at_holds w h id input.Elect completion k x = member_holds w h id (Handle input.Elect) completion k tt x
-  at_holds w h id input.Beat completion k x = member_holds w h id (Handle input.Beat) completion k tt x
-  at_holds w h id (input.Write client changes) completion k x = member_holds w h id (Handle (input.Write client changes)) completion k tt x
-  at_holds w h id (input.Rotate client) completion k x = member_holds w h id (Handle (input.Rotate client)) completion k tt x
-  at_holds w h id (input.Transfer client target) completion k x = member_holds w h id (Handle (input.Transfer client target)) completion k tt x
-  at_holds w h id (input.Cancel client) completion k x = member_holds w h id (Handle (input.Cancel client)) completion k tt x
+  at_holds : (w : WorldState) (h : History) (id : ℕ) (i : Input) (completion : Completion) → IsWorld ring w h → is_whole_input i ≡ true → Holds D R M w → Holds D R M (at_node ring w id i completion)
+  at_holds w h id (input.Deliver m) completion k whole x = same_holds w (passed w) refl refl x
+  at_holds w h id input.Elect completion k whole x = member_holds w h id (Handle input.Elect) completion k tt whole x
+  at_holds w h id input.Beat completion k whole x = member_holds w h id (Handle input.Beat) completion k tt whole x
+  at_holds w h id (input.Write client changes) completion k whole x = member_holds w h id (Handle (input.Write client changes)) completion k tt whole x
+  at_holds w h id (input.Rotate client) completion k whole x = member_holds w h id (Handle (input.Rotate client)) completion k tt whole x
+  at_holds w h id (input.Transfer client target) completion k whole x = member_holds w h id (Handle (input.Transfer client target)) completion k tt whole x
+  at_holds w h id (input.Cancel client) completion k whole x = member_holds w h id (Handle (input.Cancel client)) completion k tt whole x
 
-  line_holds : (w : WorldState) (h : History) (completion : Completion) (l : Line) → IsWorld ring w h → Holds D R M w → Holds D R M (line_step ring w completion l)
-  line_holds w h completion (line.At node i) k x = at_holds w h node i completion k x
-  line_holds w h completion (line.Give number) k x = given_holds w h completion number (message_at w.messages number) refl k x
-  line_holds w h completion (line.Next node) k x = next_holds w h node completion (next_to w node) k x
-  line_holds w h completion (line.Skip node) k x = skipped_holds w node (next_to w node) x
-  line_holds w h completion (line.Again node) k x = given_holds w h completion (w.cursors node) (message_at w.messages (w.cursors node)) refl k x
-  line_holds w h completion (line.Crash node) k x = member_holds w h node GoDown completion k tt x
-  line_holds w h completion (line.Restart node) k x = member_holds w h node ComeUp completion k tt x
+  line_holds : (w : WorldState) (h : History) (completion : Completion) (l : Line) → IsWorld ring w h → is_known ring w l ≡ true → Holds D R M w → Holds D R M (line_step ring w completion l)
+  line_holds w h completion (line.At node i) k known x = at_holds w h node i completion k (both_true (is_member ring node) (is_whole_input i) known).1 x
+  line_holds w h completion (line.Give number) k known x = given_holds w h completion number (message_at w.messages number) refl k x
+  line_holds w h completion (line.Next node) k known x = next_holds w h node completion (next_to w node) k x
+  line_holds w h completion (line.Skip node) k known x = skipped_holds w node (next_to w node) x
+  line_holds w h completion (line.Again node) k known x = given_holds w h completion (w.cursors node) (message_at w.messages (w.cursors node)) refl k x
+  line_holds w h completion (line.Crash node) k known x = member_holds w h node GoDown completion k tt tt x
+  line_holds w h completion (line.Restart node) k known x = member_holds w h node ComeUp completion k tt tt x
 
-  event_holds : (w : WorldState) (h : History) (m : Move) → IsWorld ring w h → Holds D R M w → Holds D R M (world_step ring w m.event m.completion)
+  event_holds : (w : WorldState) (h : History) (m : Move) → IsWorld ring w h → is_known ring w m.event.what ≡ true → Holds D R M w → Holds D R M (world_step ring w m.event m.completion)
   unfolding world_step
-  event_holds w h m k x = line_holds w h m.completion m.event.what k x
+  event_holds w h m k known x = line_holds w h m.completion m.event.what k known x
 
-  run_holds : (w : WorldState) (h : History) (run : List Move) → IsWorld ring w h → Holds D R M w → Holds D R M (world_from ring w run)
-  run_holds w h [] k x = x
-  run_holds w h (m ∷ run) k x = let y = event_over ring w h m k in run_holds (world_step ring w m.event m.completion) y.after run y.world (event_holds w h m k x)
+  run_holds : (w : WorldState) (h : History) (run : List Move) → IsRunFrom ring w run → IsWorld ring w h → Holds D R M w → Holds D R M (world_from ring w run)
+  run_holds w h [] is k x = x
+  run_holds w h (m ∷ run) is k x = let y = event_over ring w h m k in run_holds (world_step ring w m.event m.completion) y.after run is.2 y.world (event_holds w h m k is.0 x)
 
   first_keeps : Holds D R M first_world
   first_keeps = record {
@@ -165,6 +171,6 @@ module _ (ring : Layout) (D : ℕ → Durable → Type 0) (R : ℕ → Durable �
     messages = λ m in_m. absurd (none_contained m in_m);
   }
 
-  pub holds_always : (run : List Move) → Holds D R M (world ring run)
+  pub holds_always : (run : List Move) → IsRun ring run → Holds D R M (world ring run)
   unfolding world
-  holds_always run = run_holds first_world first_history run (first_holds ring) first_keeps
+  holds_always run is = run_holds first_world first_history run is (first_holds ring) first_keeps

@@ -3,7 +3,7 @@ use Rattle.std.proofs.Common.{◌≡◌, ℕ, ◌+◌, ◌-◌, ◌<◌, ◌≤�
 use Rattle.std.proofs.lemmas.Bool.{cases_lt}
 use Rattle.std.proofs.lemmas.Bool.Decides.{nat_tests}
 use Rattle.std.specs.Prelude.{filter, nat_le, nat_lt, slice_get}
-use Rattle.std.specs.List.{Contains}
+use Rattle.std.specs.List.{Contains, list_any}
 use Rattle.ring_types.specs.declared.entries.Entry.{Entry}
 use Rattle.ring_types.specs.declared.entries.Opid.{Opid}
 use Rattle.ring_types.specs.declared.entries.Pair.{Pair}
@@ -13,10 +13,12 @@ use Rattle.ring_types.specs.Logs.{entry_at, has_opid, is_txn, same_opid}
 use Rattle.ring_model.specs.declared.effects.Action.{Action}
 use Rattle.ring_model.specs.declared.effects.Action.TheVariants as action
 use Rattle.ring_model.specs.declared.nodes.Durable.{Durable}
-use Rattle.ring_model.specs.Actions.{all_done, done, entries_between, is_prepared, is_txn_at, pair_of, pairs_in}
+use Rattle.ring_model.specs.Actions.{FrontIs, FrontIsNot, MayCommitEntry, all_done, done, entries_between, is_held, is_prepared, is_txn_at, pair_of, pairs_in}
 use Rattle.ring_model.specs.Nodes.{ArePairsAbove, kept_pairs}
 use Rattle.ring_model.specs.Steps.{engine_actions, prepare_entry}
-use Rattle.ring_lawful.proofs.Along.{Along}
+use Rattle.ring_lawful.proofs.Along.{Along, Allowed}
+use Rattle.ring_model.proofs.Lists.{in_cons}
+use Rattle.ring_types.specs.declared.values.Change.{Change}
 use Rattle.ring_lawful.proofs.Pairs.{Placed, at_contains, between_at, filter_on, in_between, next_between, none_between, opid_in, prepared_in, prepared_out}
 
 -- of the prepared pairs, those whose entry is in the log are those of a stretch above the applied count
@@ -48,9 +50,45 @@ clean_above d k c = subst (ArePairsAbove d.log d.applied) (sym c.prepared) (abov
 pub clean_has : (d : Durable) (k : ℕ) → Clean d k → HasPairs d
 clean_has d k c = subst (ArePairsAbove d.log d.applied) (sym (clean_kept d k c)) (clean_above d k c)
 
+-- when the engine may prepare and commit
+abbrev pub Can : Durable → Action → Type 0
+Can d (action.SetTerm term) = Unit {0}
+Can d (action.Vote vote floor) = Unit {0}
+Can d (action.Append entries) = Unit {0}
+Can d (action.Truncate position) = Unit {0}
+Can d (action.Prepare pair) = list_any (is_held d.prepared) pair.txn.changes ≡ false
+Can d (action.Commit position) = (position ≡ d.applied + 1) × (position ≤ length d.log) × MayCommitEntry d.prepared position (entry_at d.log position)
+Can d (action.RollBackAfter position) = Unit {0}
+Can d (action.DropPairs opids) = Unit {0}
+
+none_held : (changes : List Change) → list_any (is_held []) changes ≡ false
+none_held [] = refl
+none_held (c ∷ changes) = none_held changes
+
+front_not : (xs : List Entry) (position : ℕ) → ((x : Entry) → Contains xs x → position < x.opid.position) → FrontIsNot (pairs_in xs) position
+front_not [] position each = tt
+front_not (x ∷ xs) position each = go x.payload refl (front_not xs position (λ y c. each y (in_cons x xs y c))) (each x (zero, omega arith, refl))
+  where
+    go : (b : Payload) → x.payload ≡ b → FrontIsNot (pairs_in xs) position → position < x.opid.position → FrontIsNot (pairs_in (x ∷ xs)) position
+    go payload.NoOp y rest lt = rw y rest
+    go payload.Rotate y rest lt = rw y rest
+    go (payload.Txn t) y rest lt = rw y (grind (arith, nat_tests, lt))
+
+entry_may : (pairs : List Pair) (position : ℕ) (e : Entry) (b : Bool) → is_txn e ≡ b → (b ≡ true → FrontIs pairs e) → (b ≡ false → FrontIsNot pairs position) → MayCommitEntry pairs position (Some e)
+entry_may pairs position e true is front other = rw (is, MayCommitEntry) (front refl)
+entry_may pairs position e false is front other = rw (is, MayCommitEntry) (other refl)
+
+can_commit : (log : List Entry) (a : ℕ) (d : Durable) (e : Entry) → d.log ≡ log → d.applied ≡ a → a < length log → slice_get log a ≡ Some e → MayCommitEntry d.prepared (suc a) (Some e) → Can d (action.Commit (suc a))
+can_commit log a d e l ap_is lt at may = (
+  omega (arith, ap_is),
+  subst (λ (w : List Entry). suc a ≤ length w) (sym l) (omega (arith, lt)),
+  subst (λ (w : List Entry). MayCommitEntry d.prepared (suc a) (entry_at w (suc a))) (sym l) (subst (λ (o : Option Entry). MayCommitEntry d.prepared (suc a) o) (sym at) may),
+)
+
 -- what the engine's actions come to
 pub record Follows (log : List Entry) (k c : ℕ) (d : Durable) (actions : List Action) : Type 0 where
   pub along : Along HasPairs d actions
+  pub can : Allowed Can d actions
   pub same : (all_done d actions).log ≡ log
   pub applied : (all_done d actions).applied ≡ c
   pub prepared : (all_done d actions).prepared ≡ pairs_in (entries_between log c k)
@@ -116,6 +154,23 @@ module _ (log : List Entry) (placed : Placed log) (low k : ℕ) (in_k : k ≤ le
       same payload.Rotate y t = rw y refl
       same (payload.Txn x) y t = absurd (let z : is_txn e ≡ true = rw y refl in cc)
 
+  may_plain : (a : ℕ) (d : Durable) (e : Entry) (b : Bool) → slice_get log a ≡ Some e → is_txn e ≡ b → d.prepared ≡ pairs_in (entries_between log a k) → (b ≡ true → a < k) → MayCommitEntry d.prepared (suc a) (Some e)
+  may_plain a d e true at t p must =
+      let lt : a < k = must refl in
+      let q : d.prepared ≡ pairs_in (e ∷ entries_between log (suc a) k) = p ∙ ap pairs_in (next_between log a k e lt at) in
+      entry_may d.prepared (suc a) e true t (λ z. subst (λ (ps : List Pair). FrontIs ps e) (sym q) (first e.payload refl t)) (λ bad. absurd cc)
+    where
+      first : (b : Payload) → e.payload ≡ b → is_txn e ≡ true → FrontIs (pairs_in (e ∷ entries_between log (suc a) k)) e
+      first payload.NoOp y t = absurd (let z : is_txn e ≡ false = rw y refl in cc)
+      first payload.Rotate y t = absurd (let z : is_txn e ≡ false = rw y refl in cc)
+      first (payload.Txn x) y t = rw y refl
+  may_plain a d e false at t p must =
+      let q : d.prepared ≡ pairs_in (entries_between log (suc a) k) = sym (one_prepared a d e at t) ∙ one_on a (record d { log = log }) e false refl at t p (λ bad. absurd cc) in
+      entry_may d.prepared (suc a) e false t (λ bad. absurd cc) (λ z. subst (λ (ps : List Pair). FrontIsNot ps (suc a)) (sym q) (front_not (entries_between log (suc a) k) (suc a) (λ x c. (in_between log (suc a) k x placed c).1)))
+    where
+      one_prepared : (a : ℕ) (d : Durable) (e : Entry) → slice_get log a ≡ Some e → is_txn e ≡ false → (done (record d { log = log }) (action.Commit (suc a))).prepared ≡ d.prepared
+      one_prepared a d e at t = committed_pairs log a (record d { log = log }) e false refl at t
+
   -- one place more, where the rest is known for what comes after it
   follow_one : (n a : ℕ) (d : Durable) (e : Entry) → slice_get log a ≡ Some e → low ≤ a → a + suc n ≤ length log → d.log ≡ log → d.applied ≡ a → d.prepared ≡ pairs_in (entries_between log a k)
       → ((done d (action.Commit (suc a))).prepared ≡ pairs_in (entries_between log (suc a) k) → Follows log k (suc a + n) (done d (action.Commit (suc a))) (engine_actions log (pairs_in (entries_between log low k)) (suc a) n))
@@ -137,7 +192,7 @@ module _ (log : List Entry) (placed : Placed log) (low k : ℕ) (in_k : k ≤ le
           let x = rest (one_on a d e b l at t p must) in
           subst (λ (s : List Action). Follows log k (a + suc n) d s) (sym (plain_actions log (pairs_in (entries_between log low k)) a n e at none))
           (subst (λ (c : ℕ). Follows log k c d (action.Commit (suc a) ∷ engine_actions log (pairs_in (entries_between log low k)) (suc a) n)) sum
-          (record { along = (here, x.along); same = x.same; applied = x.applied; prepared = x.prepared; term = x.term }))
+          (record { along = (here, x.along); can = (can_commit log a d e l ap_is (omega (arith, in_n)) at (may_plain a d e b at t p must), x.can); same = x.same; applied = x.applied; prepared = x.prepared; term = x.term }))
 
       go : (b : Payload) → e.payload ≡ b
           → ((done d (action.Commit (suc a))).prepared ≡ pairs_in (entries_between log (suc a) k) → Follows log k (suc a + n) (done d (action.Commit (suc a))) (engine_actions log (pairs_in (entries_between log low k)) (suc a) n))
@@ -172,15 +227,18 @@ module _ (log : List Entry) (placed : Placed log) (low k : ℕ) (in_k : k ≤ le
               let after : (done m (action.Commit (suc a))).prepared ≡ pairs_in (entries_between log (suc a) k) =
               committed_pairs log a m e true l at (rw y refl) ∙ (ap (drop 1) single ∙ ((rw y refl) ∙ ap pairs_in (sym (none_between log (suc a) k (omega (arith, ge)))))) in
               let r = more (record { opid = e.opid; txn = t }) after in
+              let held_none : list_any (is_held d.prepared) t.changes ≡ false = subst (λ (ps : List Pair). list_any (is_held ps) t.changes ≡ false) (sym empty) (none_held t.changes) in
+              let alone : m.prepared ≡ (record { opid = e.opid; txn = t }) ∷ [] = ap (λ (ps : List Pair). ps ++ (record { opid = e.opid; txn = t }) ∷ []) empty in
+              let front : FrontIs m.prepared e = subst (λ (ps : List Pair). FrontIs ps e) (sym alone) pair_is in
               subst (λ (s : List Action). Follows log k (a + suc n) d s) (sym (preparing_actions log (pairs_in (entries_between log low k)) a n e (record { opid = e.opid; txn = t }) at one))
               (subst (λ (c : ℕ). Follows log k c d (action.Prepare (record { opid = e.opid; txn = t }) ∷ action.Commit (suc a) ∷ engine_actions log (pairs_in (entries_between log low k)) (suc a) n)) sum
-              (record { along = (here, (clean_has m (suc a) mid, r.along)); same = r.same; applied = r.applied; prepared = r.prepared; term = r.term }))
+              (record { along = (here, (clean_has m (suc a) mid, r.along)); can = (held_none, (can_commit log a m e l ap_is (omega (arith, in_n)) at (entry_may m.prepared (suc a) e true (rw y refl) (λ z. front) (λ bad. absurd cc)), r.can)); same = r.same; applied = r.applied; prepared = r.prepared; term = r.term }))
 
   pub follows : (n a : ℕ) (d : Durable) → low ≤ a → a + n ≤ length log → d.log ≡ log → d.applied ≡ a → d.prepared ≡ pairs_in (entries_between log a k)
       → Follows log k (a + n) d (engine_actions log (pairs_in (entries_between log low k)) a n)
   follows zero a d le in_n l ap_is p =
       let z : a + 0 ≡ a = omega arith in
-      subst (λ (c : ℕ). Follows log k c d []) (sym z) (record { along = clean_has d k (clean_at a d (omega (arith, in_n)) l ap_is p); same = l; applied = ap_is; prepared = p; term = refl })
+      subst (λ (c : ℕ). Follows log k c d []) (sym z) (record { along = clean_has d k (clean_at a d (omega (arith, in_n)) l ap_is p); can = tt; same = l; applied = ap_is; prepared = p; term = refl })
   follows (suc n) a d le in_n l ap_is p =
       let found = within_some log a (omega (arith, in_n)) in
       follow_one n a d found.0 found.1 le in_n l ap_is p (follows n (suc a) (done d (action.Commit (suc a))) (omega (arith, le)) (omega (arith, in_n)) l refl)

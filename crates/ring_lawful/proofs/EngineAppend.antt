@@ -22,9 +22,9 @@ use Rattle.ring_model.specs.Nodes.{ArePairsAbove, is_leader, kept_pairs}
 use Rattle.ring_model.specs.Replication.{accept, follow_append, kept_position, leads_it, match_append, on_append, outgrows, reply, roll_back, take_in, tear_in, unmatched}
 use Rattle.ring_model.specs.Steps.{demoted, engine_actions, follow_actions, greater_of, idle, prepare_entry, smaller_of, stepped, unknowns}
 use Rattle.ring_model.proofs.Paths.{done_join}
-use Rattle.ring_lawful.proofs.Along.{Along, along_join}
+use Rattle.ring_lawful.proofs.Along.{Allowed, Along, allowed_join, along_join}
 use Rattle.ring_lawful.proofs.Pairs.{Placed, cut_pairs, placed_take, rolled_pairs, take_short}
-use Rattle.ring_lawful.proofs.Engine.{Clean, Follows, HasPairs, above, clean_has}
+use Rattle.ring_lawful.proofs.Engine.{Can, Clean, Follows, HasPairs, above, clean_has}
 use Rattle.ring_lawful.proofs.EngineSteps.{EngineRuns, EngineStep, append_clean, follow_clean, followed_clean, stands_down}
 use Rattle.ring_lawful.proofs.EngineRules.{AllTail, Both, clean_at, idle_both, quiet_both, tail_join, follow_tail}
 
@@ -74,6 +74,7 @@ follow_log ring me d c = go (runs_engine ring me)
 -- ---- what is cut and added
 record Taken (e : Durable) (actions : List Action) : Type 0 where
   along : Along HasPairs e actions
+  can : Allowed Can e actions
   k : ℕ
   clean : Clean (all_done e actions) k
   applied : (all_done e actions).applied ≡ e.applied
@@ -95,7 +96,7 @@ cut_then e k kept more x low high placed =
       prepared = ap (filter (λ (p : Pair). nat_le p.opid.position kept)) x.prepared ∙ r.3;
     } in
     let clean_f = append_clean b r.0 more clean_b placed in
-    record { along = (clean_has e k x, (has_a, (clean_has b r.0 clean_b, clean_has (done b (action.Append more)) r.0 clean_f))); k = r.0; clean = clean_f; applied = refl }
+    record { along = (clean_has e k x, (has_a, (clean_has b r.0 clean_b, clean_has (done b (action.Append more)) r.0 clean_f))); can = (tt, (tt, (tt, tt))); k = r.0; clean = clean_f; applied = refl }
 
 take_in_same : (ring : Layout) (me kept : ℕ) (d e : Durable) (rest : List Entry) → e.log ≡ d.log → take_in ring me e kept rest ≡ take_in ring me d kept rest
 take_in_same ring me kept d e [] is = refl
@@ -104,7 +105,7 @@ take_in_same ring me kept d e (x ∷ rest) is =
 
 taken_clean : (ring : Layout) (me : ℕ) (e : Durable) (kept k : ℕ) (rest : List Entry) (more : List Action) → runs_engine ring me ≡ true → Clean e k → Placed (all_done e (take_in ring me e kept rest)).log
     → ((n : ℕ) → (all_done e (take n (take_in ring me e kept rest ++ more))).applied ≤ length (all_done e (take n (take_in ring me e kept rest ++ more))).log) → Taken e (take_in ring me e kept rest)
-taken_clean ring me e kept k [] more runs x placed cuts = record { along = clean_has e k x; k = k; clean = x; applied = refl }
+taken_clean ring me e kept k [] more runs x placed cuts = record { along = clean_has e k x; can = tt; k = k; clean = x; applied = refl }
 taken_clean ring me e kept k (y ∷ rest) more runs x placed cuts = go (nat_lt kept (length e.log)) refl placed cuts
   where
     roll_is : roll_back ring me kept ≡ action.RollBackAfter kept ∷ []
@@ -123,7 +124,7 @@ taken_clean ring me e kept k (y ∷ rest) more runs x placed cuts = go (nat_lt k
         (cut_then e k kept (y ∷ rest) x (omega (arith, low, short)) (let z : kept < length e.log = grind (arith, nat_tests, is) in omega (arith, z)) at)
     go false is placed cuts =
         let f = append_clean e k (y ∷ rest) x placed in
-        record { along = (clean_has e k x, clean_has (done e (action.Append (y ∷ rest))) k f); k = k; clean = f; applied = refl }
+        record { along = (clean_has e k x, clean_has (done e (action.Append (y ∷ rest))) k f); can = (tt, tt); k = k; clean = f; applied = refl }
 
 -- ---- the whole rule
 greater_high : (a b : ℕ) → a ≤ greater_of a b
@@ -136,6 +137,7 @@ greater_high a b = go (nat_le a b) refl
 -- the node once it follows, after these actions
 record Ready (ring : Layout) (me : ℕ) (d : Durable) (s : Soft) (first : List Action) : Type 0 where
   along : Along HasPairs d first
+  can : Allowed Can d first
   k : ℕ
   clean : Clean (all_done d first) k
   follows : s.commit ≡ (all_done d first).applied
@@ -166,6 +168,7 @@ accept_engine ring me d s first says sent runs r fits =
     let j : all_done d (first ++ (acts ++ more)) ≡ g = done_join d first (acts ++ more) ∙ done_join e acts more in
     record {
       along = along_join HasPairs d first (acts ++ more) r.along (along_join HasPairs e acts more t.along y.along);
+      can = allowed_join Can d first (acts ++ more) r.can (allowed_join Can e acts more t.can y.can);
       after = subst (λ (w : Durable). EngineRuns w (record s { commit = c })) (sym j) (stands_down g (record s { commit = c }) t.k (followed_clean f t.k c more t.clean high y) (sym y.applied) r.stands);
     }
 
@@ -182,7 +185,7 @@ match_both : (ring : Layout) (me : ℕ) (d : Durable) (o s : Soft) (first : List
 match_both ring me d o s first says sent ready quiet fits = go (nat_lt (length d.log) sent.prev.position) (term_at d.log sent.prev.position == sent.prev.term) fits
   where
     refusing : (p : ℕ) → Both ring me d o (stepped first (reply me sent.leader sent.term false p ∷ []) says s)
-    refusing p = record { engine = λ runs r. (let x = ready runs r in record { along = x.along; after = stands_down (all_done d first) s x.k x.clean x.follows x.stands }); tail = λ runs. quiet }
+    refusing p = record { engine = λ runs r. (let x = ready runs r in record { along = x.along; can = x.can; after = stands_down (all_done d first) s x.k x.clean x.follows x.stands }); tail = λ runs. quiet }
 
     go : (a b : Bool)
         → Fits d (if a then stepped first (reply me sent.leader sent.term false (length d.log) ∷ []) says s else (if b then accept ring me d s first says sent else stepped first (reply me sent.leader sent.term false (sent.prev.position - 1) ∷ []) says s)).plan.actions
@@ -209,10 +212,10 @@ follow_both ring me d s sent fits = go (nat_lt d.term sent.term) s.role refl fit
         → Both ring me d s (if b then match_append ring me d (demoted s) (action.SetTerm sent.term ∷ []) (unknowns s) sent
         else elim o [ Follower ↦ match_append ring me d s [] [] sent | Candidate ↦ match_append ring me d (demoted s) [] (unknowns s) sent | Leader ↦ idle s ])
     go true o z fits = match_both ring me d s (demoted s) (action.SetTerm sent.term ∷ []) (unknowns s) sent
-        (λ runs r. let x = clean_at d (done d (action.SetTerm sent.term)) r.k refl refl refl r.clean in record { along = (clean_has d r.k r.clean, clean_has (done d (action.SetTerm sent.term)) r.k x); k = r.k; clean = x; follows = r.follows; same = refl; stands = refl })
+        (λ runs r. let x = clean_at d (done d (action.SetTerm sent.term)) r.k refl refl refl r.clean in record { along = (clean_has d r.k r.clean, clean_has (done d (action.SetTerm sent.term)) r.k x); can = (tt, tt); k = r.k; clean = x; follows = r.follows; same = refl; stands = refl })
         (tt, tt) fits
-    go false Follower z fits = match_both ring me d s s [] [] sent (λ runs r. record { along = clean_has d r.k r.clean; k = r.k; clean = r.clean; follows = r.follows; same = refl; stands = ap is_leader z }) tt fits
-    go false Candidate z fits = match_both ring me d s (demoted s) [] (unknowns s) sent (λ runs r. record { along = clean_has d r.k r.clean; k = r.k; clean = r.clean; follows = r.follows; same = refl; stands = refl }) tt fits
+    go false Follower z fits = match_both ring me d s s [] [] sent (λ runs r. record { along = clean_has d r.k r.clean; can = tt; k = r.k; clean = r.clean; follows = r.follows; same = refl; stands = ap is_leader z }) tt fits
+    go false Candidate z fits = match_both ring me d s (demoted s) [] (unknowns s) sent (λ runs r. record { along = clean_has d r.k r.clean; can = tt; k = r.k; clean = r.clean; follows = r.follows; same = refl; stands = refl }) tt fits
     go false Leader z fits = idle_both ring me d s
 
 pub append_both : (ring : Layout) (me : ℕ) (sent : Append) (d : Durable) (s : Soft) → Fits d (on_append ring me d s sent).plan.actions (on_append ring me d s sent).soft.commit → Both ring me d s (on_append ring me d s sent)

@@ -2,7 +2,7 @@
 use Rattle.std.proofs.Common.{◌≡◌, ℕ, ◌+◌, ◌-◌, ◌<◌, ◌≤◌, ◌==◌, ◌⊎◌, [], ◌∷◌, ◌++◌, ◌∙◌, ◌&&◌, ◌||◌, if◌then◌else◌, Bool, List, None, Option, Some, ap, append_assoc, arith, drop, false, inl, inr, length, not, refl, subst, suc, sym, take, true, zero}
 use Rattle.std.proofs.lemmas.Bool.Decides.{nat_tests}
 use Rattle.std.proofs.lemmas.List.{length-take-le}
-use Rattle.std.specs.Prelude.{filter, nat_le, nat_lt}
+use Rattle.std.specs.Prelude.{filter, find, nat_le, nat_lt}
 use Rattle.ring_types.specs.declared.entries.Entry.{Entry}
 use Rattle.ring_types.specs.declared.entries.Grant.{Grant}
 use Rattle.ring_types.specs.declared.entries.Opid.{Opid}
@@ -15,6 +15,10 @@ use Rattle.ring_types.specs.Logs.{at_least, last, term_at}
 use Rattle.ring_model.specs.declared.effects.Action.{Action}
 use Rattle.ring_model.specs.declared.effects.Action.TheVariants as action
 use Rattle.ring_model.specs.declared.effects.Cause.{Cause}
+use Rattle.ring_model.specs.declared.effects.Cause.TheVariants as cause
+use Rattle.ring_types.specs.declared.values.RowRefusal.{RowRefusal}
+use Rattle.ring_types.specs.Rows.{change_key, check, table_name}
+use Rattle.std.specs.List.{list_any}
 use Rattle.ring_model.specs.declared.effects.Say.{Say}
 use Rattle.ring_model.specs.declared.effects.Step.{Step}
 use Rattle.ring_model.specs.declared.effects.Tear.{Tear}
@@ -28,19 +32,19 @@ use Rattle.ring_model.specs.declared.nodes.Durable.{Durable}
 use Rattle.ring_model.specs.declared.nodes.Role.{Role}
 use Rattle.ring_model.specs.declared.nodes.Role.TheVariants.{Candidate, Follower, Leader}
 use Rattle.ring_model.specs.declared.nodes.Soft.{Soft}
-use Rattle.ring_model.specs.Actions.{all_done, done, entries_between, has_room, pairs_in, vote_in}
+use Rattle.ring_model.specs.Actions.{all_done, done, entries_between, has_room, holder_of, is_held, pairs_in, vote_in, writes_key}
 use Rattle.ring_model.specs.Nodes.{is_leader, is_ready, kept_pairs}
 use Rattle.ring_model.specs.Replication.{accept, counts, follow_append, heard_among, kept_position, leader_hears, leads_it, match_append, on_ack, on_append, outgrows, reply, roll_back, take_in, tear_in, unmatched}
 use Rattle.ring_model.specs.Transfers.{after_ok, on_answer, with_more}
 use Rattle.ring_model.specs.Elections.{answer_by, answer_request, cast_actions, elect, floor_of, grant_vote, granted_now, has_granted, has_won, lead, lead_or_ask, leading, may_elect, new_vote, on_reply, on_request, refused_now, stand, stand_actions, voter_answers}
-use Rattle.ring_model.specs.Writes.{awaits, refused, rotate, rotate_refusal, rotate_step, write, write_entry, write_entry_step, write_refusal, write_txn}
+use Rattle.ring_model.specs.Writes.{awaits, change_refusal, committed_rows, is_handing, lock_of, lock_refusal, refused, size_refusal, rotate, rotate_refusal, rotate_step, write, write_entry, write_entry_step, write_refusal, write_txn}
 use Rattle.ring_model.specs.Steps.{advance, commit_count, demoted, engine_actions, follow_actions, greater_of, idle, own_entry, prepare_entry, smaller_of, stepped, unknowns}
 use Rattle.ring_model.proofs.Lists.{both_true}
 use Rattle.ring_model.proofs.OnAppend.{greater_by}
 use Rattle.ring_model.proofs.Paths.{done_join}
-use Rattle.ring_lawful.proofs.Along.{Along, along_join}
+use Rattle.ring_lawful.proofs.Along.{Allowed, Along, allowed_join, along_join}
 use Rattle.ring_lawful.proofs.Pairs.{Placed, cut_pairs, placed_push, rolled_pairs, take_short}
-use Rattle.ring_lawful.proofs.Engine.{Clean, Follows, HasPairs, above, clean_has}
+use Rattle.ring_lawful.proofs.Engine.{Can, Clean, Follows, HasPairs, above, clean_has}
 use Rattle.ring_lawful.proofs.EngineSteps.{EngineRuns, EngineStep, advance_step, append_clean, follow_clean, followed_clean, push_clean, quiet_step, same_runs, stands_down, written}
 
 -- ---- what a logtailer may do
@@ -97,15 +101,15 @@ runs_at d e s l a p r = record {
 
 pub raise_both : (ring : Layout) (me t : ℕ) (d : Durable) (s : Soft) (ms : List Message) (says : List Say) → Both ring me d s (stepped (action.SetTerm t ∷ []) ms says (demoted s))
 raise_both ring me t d s ms says = record {
-  engine = λ runs r. (let x = clean_at d (done d (action.SetTerm t)) r.k refl refl refl r.clean in record { along = (clean_has d r.k r.clean, clean_has (done d (action.SetTerm t)) r.k x); after = stands_down (done d (action.SetTerm t)) (demoted s) r.k x r.follows refl });
+  engine = λ runs r. (let x = clean_at d (done d (action.SetTerm t)) r.k refl refl refl r.clean in record { along = (clean_has d r.k r.clean, clean_has (done d (action.SetTerm t)) r.k x); can = (tt, tt); after = stands_down (done d (action.SetTerm t)) (demoted s) r.k x r.follows refl });
   tail = λ runs. (tt, tt);
 }
 
 -- ---- elections
-ask_engine : (ring : Layout) (me : ℕ) (d : Durable) (s : Soft) (first : List Action) (says : List Say) (grants : List Grant) (asks : List Message) (k : ℕ) → runs_engine ring me ≡ true → Along HasPairs d first → Clean (all_done d first) k
+ask_engine : (ring : Layout) (me : ℕ) (d : Durable) (s : Soft) (first : List Action) (says : List Say) (grants : List Grant) (asks : List Message) (k : ℕ) → runs_engine ring me ≡ true → Along HasPairs d first → Allowed Can d first → Clean (all_done d first) k
     → s.commit ≡ (all_done d first).applied → EngineStep d (lead_or_ask ring me d s first says grants asks)
 unfolding lead_or_ask
-ask_engine ring me d s first says grants asks k runs a x is = go (has_won ring me (all_done d first) grants)
+ask_engine ring me d s first says grants asks k runs a can x is = go (has_won ring me (all_done d first) grants)
   where
     e : Durable
     e = all_done d first
@@ -122,12 +126,13 @@ ask_engine ring me d s first says grants asks k runs a x is = go (has_won ring m
         let j = done_join d first (action.Append (own ∷ []) ∷ []) in
         advance_step ring me d (leading ring me (suc (length (all_done d first).log)) s grants) (first ++ (action.Append (own ∷ []) ∷ [])) says k runs
         (along_join HasPairs d first (action.Append (own ∷ []) ∷ []) a (clean_has (all_done d first) k x, clean_has f k y))
+        (allowed_join Can d first (action.Append (own ∷ []) ∷ []) can (tt, tt))
         (subst (λ (w : Durable). Clean w k) (sym j) y) (is ∙ sym (ap (λ (w : Durable). w.applied) j))
         (λ led. inr (sym (ap (λ (w : Durable). length w.log) j ∙ length_push (all_done d first).log own)))
 
     go : (b : Bool) → EngineStep d (if b then lead ring me d s first says grants else stepped first asks says (record s { role = Candidate; grants = grants }))
     go true = leads
-    go false = record { along = a; after = stands_down (all_done d first) (record s { role = Candidate; grants = grants }) k x is refl }
+    go false = record { along = a; can = can; after = stands_down (all_done d first) (record s { role = Candidate; grants = grants }) k x is refl }
 
 ask_tail : (ring : Layout) (me : ℕ) (d : Durable) (s : Soft) (first : List Action) (says : List Say) (grants : List Grant) (asks : List Message) → runs_engine ring me ≡ false → AllTail first → AllTail (lead_or_ask ring me d s first says grants asks).plan.actions
 unfolding lead_or_ask
@@ -150,7 +155,7 @@ elect_both ring me d s = go (may_elect ring me d s)
           let e : Durable = all_done d (stand_actions ring me d s) in
           let x = clean_at d m r.k refl refl refl r.clean in
           let y = clean_at d e r.k refl refl refl r.clean in
-          ask_engine ring me d (demoted s) (stand_actions ring me d s) (unknowns s) _ _ r.k runs (clean_has d r.k r.clean, (clean_has m r.k x, clean_has e r.k y)) y r.follows;
+          ask_engine ring me d (demoted s) (stand_actions ring me d s) (unknowns s) _ _ r.k runs (clean_has d r.k r.clean, (clean_has m r.k x, clean_has e r.k y)) (tt, (tt, tt)) y r.follows;
       tail = λ runs. ask_tail ring me d (demoted s) (stand_actions ring me d s) (unknowns s) _ _ runs (tt, (tt, tt));
     }
 
@@ -164,7 +169,7 @@ reply_both ring me from reply d s = go s.role
   where
     count : (b : Bool) → Both ring me d s (if b then lead_or_ask ring me d s [] [] (s.grants ++ record { voter = from; votes = reply.votes } ∷ []) [] else idle s)
     count true = record {
-      engine = λ runs r. ask_engine ring me d s [] [] (s.grants ++ record { voter = from; votes = reply.votes } ∷ []) [] r.k runs (clean_has d r.k r.clean) r.clean r.follows;
+      engine = λ runs r. ask_engine ring me d s [] [] (s.grants ++ record { voter = from; votes = reply.votes } ∷ []) [] r.k runs (clean_has d r.k r.clean) tt r.clean r.follows;
       tail = λ runs. ask_tail ring me d s [] [] (s.grants ++ record { voter = from; votes = reply.votes } ∷ []) [] runs tt;
     }
     count false = idle_both ring me d s
@@ -187,11 +192,11 @@ reply_both ring me from reply d s = go s.role
 -- ---- votes
 -- terms and votes alone, and after them this soft part
 record Before (ring : Layout) (me : ℕ) (d : Durable) (s o : Soft) (first : List Action) : Type 0 where
-  engine : runs_engine ring me ≡ true → EngineRuns d s → Along HasPairs d first × EngineRuns (all_done d first) o
+  engine : runs_engine ring me ≡ true → EngineRuns d s → Along HasPairs d first × Allowed Can d first × EngineRuns (all_done d first) o
   tail : runs_engine ring me ≡ false → AllTail first
 
 before_both : (ring : Layout) (me : ℕ) (d : Durable) (s o : Soft) (first : List Action) (ms : List Message) (says : List Say) → Before ring me d s o first → Both ring me d s (stepped first ms says o)
-before_both ring me d s o first ms says b = record { engine = λ runs r. (let x = b.engine runs r in record { along = x.0; after = x.1 }); tail = b.tail }
+before_both ring me d s o first ms says b = record { engine = λ runs r. (let x = b.engine runs r in record { along = x.0; can = x.1; after = x.2 }); tail = b.tail }
 
 vote_both : (ring : Layout) (me : ℕ) (d : Durable) (s o : Soft) (first : List Action) (v : Vote) (floor : ℕ) (ms : List Message) (says : List Say) → Before ring me d s o first → Both ring me d s (stepped (first ++ (action.Vote v floor ∷ [])) ms says o)
 vote_both ring me d s o first v floor ms says b = record {
@@ -199,10 +204,11 @@ vote_both ring me d s o first v floor ms says b = record {
       let x = b.engine runs r in
       let e : Durable = all_done d first in
       let f : Durable = done e (action.Vote v floor) in
-      let y = runs_at e f o refl refl refl x.1 in
-      let z = x.1 in
+      let y = runs_at e f o refl refl refl x.2 in
+      let z = x.2 in
       record {
         along = along_join HasPairs d first (action.Vote v floor ∷ []) x.0 (clean_has e z.k z.clean, clean_has f y.k y.clean);
+        can = allowed_join Can d first (action.Vote v floor ∷ []) x.1 (tt, tt);
         after = subst (λ (w : Durable). EngineRuns w o) (sym (done_join d first (action.Vote v floor ∷ []))) y;
       };
   tail = λ runs. tail_join first (action.Vote v floor ∷ []) (b.tail runs) (tt, tt);
@@ -232,10 +238,10 @@ request_both ring me from asked d s = voter (votes ring me)
         else (if b then answer_request ring me d (demoted s) (action.SetTerm asked.term ∷ []) (unknowns s) from asked else answer_request ring me d s [] [] from asked))
     go true b = quiet_both ring me d s s _ [] refl refl refl
     go false true = answer_both ring me d s (demoted s) (action.SetTerm asked.term ∷ []) (unknowns s) from asked (record {
-      engine = λ runs r. (let x = clean_at d (done d (action.SetTerm asked.term)) r.k refl refl refl r.clean in ((clean_has d r.k r.clean, clean_has (done d (action.SetTerm asked.term)) r.k x), stands_down (done d (action.SetTerm asked.term)) (demoted s) r.k x r.follows refl));
+      engine = λ runs r. (let x = clean_at d (done d (action.SetTerm asked.term)) r.k refl refl refl r.clean in ((clean_has d r.k r.clean, clean_has (done d (action.SetTerm asked.term)) r.k x), (tt, tt), stands_down (done d (action.SetTerm asked.term)) (demoted s) r.k x r.follows refl));
       tail = λ runs. (tt, tt);
     })
-    go false false = answer_both ring me d s s [] [] from asked (record { engine = λ runs r. (clean_has d r.k r.clean, r); tail = λ runs. tt })
+    go false false = answer_both ring me d s s [] [] from asked (record { engine = λ runs r. (clean_has d r.k r.clean, tt, r); tail = λ runs. tt })
 
     voter : (b : Bool) → Both ring me d s (if b then voter_answers ring me d s from asked else idle s)
     voter true = go (nat_lt asked.term d.term) (nat_lt d.term asked.term)
@@ -245,9 +251,9 @@ request_both ring me from asked d s = voter (votes ring me)
 hears_both : (ring : Layout) (me from : ℕ) (answer : AppendReply) (d : Durable) (s : Soft) → Both ring me d s (leader_hears ring me d s from answer)
 hears_both ring me from answer d s = record {
   engine = λ runs r. elim (ready_cases s) [
-    | inl ready ↦ advance_step ring me d (record s { peers = heard_among s.peers from answer.ok answer.position }) [] [] (length d.log) runs (clean_has d (length d.log) (r.all ready)) (r.all ready) r.follows
+    | inl ready ↦ advance_step ring me d (record s { peers = heard_among s.peers from answer.ok answer.position }) [] [] (length d.log) runs (clean_has d (length d.log) (r.all ready)) tt (r.all ready) r.follows
         (λ led. inl ((both_true (is_leader s.role) (nat_le s.ready_at s.commit) ready).1, refl))
-    | inr unready ↦ advance_step ring me d (record s { peers = heard_among s.peers from answer.ok answer.position }) [] [] r.k runs (clean_has d r.k r.clean) r.clean r.follows
+    | inr unready ↦ advance_step ring me d (record s { peers = heard_among s.peers from answer.ok answer.position }) [] [] r.k runs (clean_has d r.k r.clean) tt r.clean r.follows
         (λ led. elim (r.ends led) [ inl low ↦ absurd (unready led low) | inr end ↦ inr end ])
   ];
   tail = λ runs. advance_tail ring me d (record s { peers = heard_among s.peers from answer.ok answer.position }) [] [] runs tt;
@@ -278,7 +284,7 @@ answered_both ring me from answer d s = go (counts d s answer && answer.ok)
     b = ack_both ring me from answer d s
 
     go : (a : Bool) → Both ring me d s (if a then with_more (on_ack ring me d s from answer) (after_ok me d (on_ack ring me d s from answer).soft.peers from s.transfer) else on_ack ring me d s from answer)
-    go true = record { engine = λ runs r. (let x = b.engine runs r in record { along = x.along; after = x.after }); tail = b.tail }
+    go true = record { engine = λ runs r. (let x = b.engine runs r in record { along = x.along; can = x.can; after = x.after }); tail = b.tail }
     go false = b
 
 pub write_is_ready : (ring : Layout) (me : ℕ) (d : Durable) (s : Soft) (changes : List Change) → write_refusal ring me d s changes ≡ None → (is_ready s ≡ true) × (runs_engine ring me ≡ true)
@@ -290,6 +296,50 @@ write_is_ready ring me d s changes is = go (is_leader s.role) refl (nat_le s.rea
     go true x false y c z = absurd (let u = rw (x, y) at is in cc)
     go true x true y false z = absurd (let u = rw (x, y, z) at is in cc)
     go true x true y true z = (rw (x, y) refl, z)
+
+unlocked : (pairs : List Pair) (changes : List Change) → lock_of pairs changes ≡ None → list_any (is_held pairs) changes ≡ false
+unlocked pairs [] is = refl
+unlocked pairs (c ∷ changes) is = go (holder_of pairs c) refl is (unlocked pairs changes)
+  where
+    none_writes : (ps : List Pair) → find (writes_key c) ps ≡ None → list_any (writes_key c) ps ≡ false
+    none_writes [] x = refl
+    none_writes (p ∷ ps) x = pick (writes_key c p) refl x (none_writes ps)
+      where
+        pick : (b : Bool) → writes_key c p ≡ b → find (writes_key c) (p ∷ ps) ≡ None → (find (writes_key c) ps ≡ None → list_any (writes_key c) ps ≡ false) → list_any (writes_key c) (p ∷ ps) ≡ false
+        pick true y x rest = absurd (let u = rw y at x in cc)
+        pick false y x rest = rw y (rest (let u = rw y at x in u))
+
+    go : (o : Option Pair) → holder_of pairs c ≡ o → ◌≡◌ {A = Option Cause} (elim o [ Some p ↦ Some (cause.Locked (table_name c) (change_key c) p.opid) | None ↦ lock_of pairs changes ]) None
+        → (lock_of pairs changes ≡ None → list_any (is_held pairs) changes ≡ false) → list_any (is_held pairs) (c ∷ changes) ≡ false
+    go (Some p) x y rest = absurd cc
+    go None x y rest = let here = none_writes pairs x in rw here (rest y)
+
+lock_passed : (ring : Layout) (me : ℕ) (d : Durable) (changes : List Change) → lock_refusal ring me d changes ≡ None → lock_of d.prepared changes ≡ None
+lock_passed ring me d changes is = go (lock_of d.prepared changes) refl is
+  where
+    go : (o : Option Cause) → lock_of d.prepared changes ≡ o → ◌≡◌ {A = Option Cause} (elim o [ Some c ↦ Some c | None ↦ size_refusal ring me d changes ]) None → lock_of d.prepared changes ≡ None
+    go (Some c) x y = absurd cc
+    go None x y = x
+
+rows_passed : (ring : Layout) (me : ℕ) (d : Durable) (changes : List Change) → change_refusal ring me d changes ≡ None → lock_refusal ring me d changes ≡ None
+rows_passed ring me d changes is = go (check ring.schema (committed_rows ring d) changes) is
+  where
+    go : (o : Option RowRefusal) → ◌≡◌ {A = Option Cause} (elim o [ Some r ↦ Some (cause.Invalid r) | None ↦ lock_refusal ring me d changes ]) None → lock_refusal ring me d changes ≡ None
+    go (Some r) y = absurd cc
+    go None y = y
+
+write_holds : (ring : Layout) (me : ℕ) (d : Durable) (s : Soft) (changes : List Change) → write_refusal ring me d s changes ≡ None → list_any (is_held d.prepared) changes ≡ false
+unfolding write_refusal
+write_holds ring me d s changes is = go (is_leader s.role) (is_ready s) (runs_engine ring me) (is_handing s.transfer) is
+  where
+    go : (a b c e : Bool)
+        → ◌≡◌ {A = Option Cause} (if not a then Some cause.NotLeader else (if not b then Some cause.NotReady else (if not c then Some cause.NoEngine else (if e then Some cause.Transferring else change_refusal ring me d changes)))) None
+        → list_any (is_held d.prepared) changes ≡ false
+    go false b c e is = absurd cc
+    go true false c e is = absurd cc
+    go true true false e is = absurd cc
+    go true true true true is = absurd cc
+    go true true true false is = unlocked d.prepared changes (lock_passed ring me d changes (rows_passed ring me d changes is))
 
 pub rotate_is_ready : (ring : Layout) (me : ℕ) (d : Durable) (s : Soft) → rotate_refusal ring me d s ≡ None → is_ready s ≡ true
 unfolding rotate_refusal
@@ -314,7 +364,7 @@ write_both ring me client changes d s = go (write_refusal ring me d s changes) r
         record {
           engine = λ runs r.
               let w = written d p x (r.all ready.0) refl refl refl in
-              advance_step ring me d (awaits s client x (write_txn ring me d changes).gtid) (action.Prepare p ∷ action.Append (x ∷ []) ∷ []) [] (length (d.log ++ x ∷ [])) runs w.along w.clean r.follows
+              advance_step ring me d (awaits s client x (write_txn ring me d changes).gtid) (action.Prepare p ∷ action.Append (x ∷ []) ∷ []) [] (length (d.log ++ x ∷ [])) runs w.along (write_holds ring me d s changes is, (tt, tt)) w.clean r.follows
               (λ led. inl ((both_true (is_leader s.role) (nat_le s.ready_at s.commit) ready.0).1, refl));
           tail = λ runs. absurd (let z : true ≡ false = sym ready.1 ∙ runs in cc);
         }
@@ -332,7 +382,7 @@ rotate_both ring me client d s = go (rotate_refusal ring me d s) refl
           engine = λ runs r.
               let c = r.all ready in
               let y = push_clean d x c refl refl in
-              advance_step ring me d s (action.Append (x ∷ []) ∷ []) (record { client = client; what = what.Rotated x.opid } ∷ []) (length (d.log ++ x ∷ [])) runs (clean_has d (length d.log) c, clean_has (done d (action.Append (x ∷ []))) (length (d.log ++ x ∷ [])) y) y r.follows
+              advance_step ring me d s (action.Append (x ∷ []) ∷ []) (record { client = client; what = what.Rotated x.opid } ∷ []) (length (d.log ++ x ∷ [])) runs (clean_has d (length d.log) c, clean_has (done d (action.Append (x ∷ []))) (length (d.log ++ x ∷ [])) y) (tt, tt) y r.follows
               (λ led. inl ((both_true (is_leader s.role) (nat_le s.ready_at s.commit) ready).1, refl));
           tail = λ runs. advance_tail ring me d s (action.Append (x ∷ []) ∷ []) _ runs (tt, tt);
         }

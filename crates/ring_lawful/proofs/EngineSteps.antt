@@ -29,9 +29,9 @@ use Rattle.ring_model.specs.Elections.{lead, leading}
 use Rattle.ring_model.specs.Steps.{advance, commit_count, demoted, engine_actions, follow_actions, greatest, idle, may_commit, own_entry, stepped, waiting}
 use Rattle.ring_model.proofs.Lists.{both_true}
 use Rattle.ring_model.proofs.Paths.{done_join}
-use Rattle.ring_lawful.proofs.Along.{Along, along_join}
+use Rattle.ring_lawful.proofs.Along.{Allowed, Along, allowed_join, along_join}
 use Rattle.ring_lawful.proofs.Pairs.{Placed, between_more, between_push, cut_pairs, none_between, opid_beyond, pairs_join, placed_push, rolled_pairs}
-use Rattle.ring_lawful.proofs.Engine.{Clean, Follows, HasPairs, clean_has, clean_kept, follows, kept_all, above}
+use Rattle.ring_lawful.proofs.Engine.{Can, Clean, Follows, HasPairs, clean_has, clean_kept, follows, kept_all, above}
 
 -- a running node with an engine: the pairs are clean, the engine follows the commit count, and a ready leader has every transaction of its log prepared
 pub record EngineRuns (d : Durable) (s : Soft) : Type 0 where
@@ -44,6 +44,7 @@ pub record EngineRuns (d : Durable) (s : Soft) : Type 0 where
 -- what a step of such a node leaves
 pub record EngineStep (d : Durable) (st : Step) : Type 0 where
   pub along : Along HasPairs d st.plan.actions
+  pub can : Allowed Can d st.plan.actions
   pub after : EngineRuns (all_done d st.plan.actions) st.soft
 
 not_ready : (s : Soft) → is_leader s.role ≡ false → is_ready s ≡ true → ⊥
@@ -63,7 +64,7 @@ same_runs d s o role count at r = record {
 }
 
 pub quiet_step : (d : Durable) (s : Soft) (ms : List Message) (says : List Say) → EngineRuns d s → EngineStep d (stepped [] ms says s)
-quiet_step d s ms says r = record { along = clean_has d r.k r.clean; after = r }
+quiet_step d s ms says r = record { along = clean_has d r.k r.clean; can = tt; after = r }
 
 -- ---- the engine follows
 pub follow_clean : (ring : Layout) (me : ℕ) (d : Durable) (c k : ℕ) → runs_engine ring me ≡ true → Clean d k → d.applied ≤ c → c ≤ length d.log → Follows d.log k c d (follow_actions ring me d c)
@@ -117,10 +118,10 @@ advanced e g s t k c x l at low high role ready count cases = record {
   ]);
 }
 
-pub advance_step : (ring : Layout) (me : ℕ) (d : Durable) (s : Soft) (first : List Action) (says : List Say) (k : ℕ) → runs_engine ring me ≡ true → Along HasPairs d first → Clean (all_done d first) k → s.commit ≡ (all_done d first).applied
+pub advance_step : (ring : Layout) (me : ℕ) (d : Durable) (s : Soft) (first : List Action) (says : List Say) (k : ℕ) → runs_engine ring me ≡ true → Along HasPairs d first → Allowed Can d first → Clean (all_done d first) k → s.commit ≡ (all_done d first).applied
     → (is_leader s.role ≡ true → ((nat_le s.ready_at s.commit ≡ true) × (k ≡ length (all_done d first).log)) ⊎ (s.ready_at ≡ length (all_done d first).log)) → EngineStep d (advance ring me d s first says)
 unfolding advance
-advance_step ring me d s first says k runs a x is cases =
+advance_step ring me d s first says k runs a can x is cases =
     let e : Durable = all_done d first in
     let c = commit_count ring me e.term e.log s in
     let t : Soft = record s { commit = c; pending = waiting c s.pending } in
@@ -129,6 +130,7 @@ advance_step ring me d s first says k runs a x is cases =
     let j = done_join d first (follow_actions ring me e c) in
     record {
       along = along_join HasPairs d first (follow_actions ring me e c) a f.along;
+      can = allowed_join Can d first (follow_actions ring me e c) can f.can;
       after = subst (λ (w : Durable). EngineRuns w t) (sym j)
           (advanced e (all_done e (follow_actions ring me e c)) s t k c (followed_clean e k c (follow_actions ring me e c) x b.1 f) f.same f.applied b.0 b.1 refl refl refl cases);
     }

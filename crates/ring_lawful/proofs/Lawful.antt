@@ -15,7 +15,7 @@ use Rattle.ring_model.specs.declared.nodes.Soft.{Soft}
 use Rattle.ring_model.specs.Actions.{all_done}
 use Rattle.ring_model.specs.Dispatch.{step}
 use Rattle.ring_model.specs.Nodes.{IsLawful, IsPendingIn, PeerFits, fresh_soft, is_leader, is_ready, recover}
-use Rattle.ring_model.specs.Runs.{Move, world}
+use Rattle.ring_model.specs.Runs.{IsRun, Move, world}
 use Rattle.ring_model.proofs.Invariant.{History, IsHistory, IsNode, IsRunning}
 use Rattle.ring_model.proofs.Lists.{all_of}
 use Rattle.ring_lawful.specs.Lawful.{EveryRunningNodeIsLawful, KeepsCounts, RunsEngine}
@@ -38,14 +38,14 @@ Sent m = Unit {0}
 soft_kept : (ring : Layout) → IsKeptByAll ring Anything (SoftAt ring) Sent
 soft_kept ring = record {
   first = λ id. tt;
-  steps = λ h id d s i k n r given sent x y. record { cut = λ c. tt; whole = tt; soft = step_soft ring id d s i y (running_counts ring h id d s r).commit_inside; sent = λ m in_m. tt };
+  steps = λ h id d s i k n r given whole sent x y. record { cut = λ c. tt; whole = tt; soft = step_soft ring id d s i y (running_counts ring h id d s r).commit_inside; sent = λ m in_m. tt };
   recovers = λ h id d n x. tt;
   partly = λ h id d n k x. tt;
   starts = λ h id d n x. stands ring id d.log (fresh_soft d) refl (λ v. refl) refl refl tt;
 }
 
-soft_always : (ring : Layout) (run : List Move) → Holds Anything (SoftAt ring) Sent (world ring run)
-soft_always ring run = holds_always ring Anything (SoftAt ring) Sent (soft_kept ring) run
+soft_always : (ring : Layout) (run : List Move) → IsRun ring run → Holds Anything (SoftAt ring) Sent (world ring run)
+soft_always ring run lawful = holds_always ring Anything (SoftAt ring) Sent (soft_kept ring) run lawful
 
 all_from : {X : Type 0} (P : X → Type 0) (xs : List X) → ((x : X) → Contains xs x → P x) → All P xs
 all_from P xs each k d lt = each (slice_index_or xs k d) (Contains-get_or xs k d lt)
@@ -60,7 +60,7 @@ unready s n led (inl before) is = absurd (let z : is_ready s ≡ true = rw (led,
 pub every_running_node_is_lawful : EveryRunningNodeIsLawful
 every_running_node_is_lawful ring run lawful id s up =
     let d : Durable = ((world ring run).nodes id).durable in
-    let x : SoftFits ring id d.log s = (soft_always ring run).running id s up in
+    let x : SoftFits ring id d.log s = (soft_always ring run lawful).running id s up in
     let c : KeepsCounts d s = (every_node_keeps_order ring run lawful).1 id s up in
     let p : RunsEngine ring id d s = (every_node_keeps_pairs ring run lawful).1 id s up in
     record {

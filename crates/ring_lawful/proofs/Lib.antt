@@ -8,9 +8,11 @@ pub mod EngineRules
 pub mod EngineAppend
 pub mod EngineDispatch
 pub mod Prepared
+pub mod Payloads
 pub mod Sized
 pub mod SizedRules
 pub mod Sound
 pub mod Leads
 pub mod LeadsRules
 pub mod Lawful
+pub mod Possible

@@ -17,7 +17,7 @@ use Rattle.ring_model.specs.declared.nodes.Soft.{Soft}
 use Rattle.ring_model.specs.Actions.{all_done, done, entries_between, pairs_in}
 use Rattle.ring_model.specs.Dispatch.{step}
 use Rattle.ring_model.specs.Nodes.{ArePairsAbove, empty_durable, fresh_soft, is_ready, kept_pairs, recover, stray_opids}
-use Rattle.ring_model.specs.Runs.{Move, world}
+use Rattle.ring_model.specs.Runs.{IsRun, Move, world}
 use Rattle.ring_model.specs.Safety.{PreparedAgrees}
 use Rattle.ring_model.specs.Worlds.{restart_actions}
 use Rattle.ring_model.proofs.Dispatch.{IsGiven, step_row}
@@ -34,17 +34,17 @@ use Rattle.ring_lawful.proofs.EngineSteps.{EngineRuns, EngineStep, stands_down}
 use Rattle.ring_lawful.proofs.Order.{placed_in}
 use Rattle.ring_lawful.proofs.Pairs.{none_between}
 
-abbrev IsEmpty : Durable → Type 0
+abbrev pub IsEmpty : Durable → Type 0
 IsEmpty d = (d.applied ≡ 0) × (d.prepared ≡ [])
 
-record Engine (ring : Layout) (id : ℕ) (d : Durable) : Type 0 where
-  engine : runs_engine ring id ≡ true → HasPairs d
-  tailer : runs_engine ring id ≡ false → IsEmpty d
+pub record Engine (ring : Layout) (id : ℕ) (d : Durable) : Type 0 where
+  pub engine : runs_engine ring id ≡ true → HasPairs d
+  pub tailer : runs_engine ring id ≡ false → IsEmpty d
 
-abbrev Running : Layout → ℕ → Durable → Soft → Type 0
+abbrev pub Running : Layout → ℕ → Durable → Soft → Type 0
 Running ring id d s = runs_engine ring id ≡ true → EngineRuns d s
 
-abbrev Nothing : Message → Type 0
+abbrev pub Nothing : Message → Type 0
 Nothing m = Unit {0}
 
 -- ---- a logtailer
@@ -120,7 +120,7 @@ partly_one ring id d (suc n) (o ∷ opids) is x = go n
 engine_kept : (ring : Layout) → IsKeptByAll ring (Engine ring) (Running ring) Nothing
 engine_kept ring = record {
   first = λ id. record { engine = λ runs. (0, omega arith, omega arith, refl); tailer = λ runs. (refl, refl) };
-  steps = λ h id d s i k n r given sent x y.
+  steps = λ h id d s i k n r given whole sent x y.
       let st = step ring id d s i in
       let b = step_both ring id d s i (row_fits ring h id d s (step ring id d s i) k n (step_row ring h id d s i k n r given)) in
       record {
@@ -143,12 +143,12 @@ engine_kept ring = record {
   starts = λ h id d n x runs. (let c = recovered ring h id d n (x.engine runs) in stands_down (recover d) (fresh_soft d) c.0 c.1 refl refl);
 }
 
-held : (ring : Layout) (run : List Move) → Holds (Engine ring) (Running ring) Nothing (world ring run)
-held ring run = holds_always ring (Engine ring) (Running ring) Nothing (engine_kept ring) run
+pub held : (ring : Layout) (run : List Move) → IsRun ring run → Holds (Engine ring) (Running ring) Nothing (world ring run)
+held ring run lawful = holds_always ring (Engine ring) (Running ring) Nothing (engine_kept ring) run lawful
 
 pub every_run_prepares_in_order : EveryRunPreparesInOrder
 every_run_prepares_in_order ring run lawful =
-    let x = held ring run in
+    let x = held ring run lawful in
     record {
       engine = λ id s up runs. (let r = x.running id s up runs in clean_above ((world ring run).nodes id).durable r.k r.clean);
       tailer = λ id runs. (let z = (x.nodes id).tailer runs in (z.1, z.0));
@@ -160,7 +160,7 @@ empty_has d x = (d.applied, omega arith, omega (arith, x.0), ap (filter (λ (p :
 
 pub every_node_keeps_pairs : EveryNodeKeepsPairs
 every_node_keeps_pairs ring run lawful =
-    let x = held ring run in (
+    let x = held ring run lawful in (
       λ id. (let d = ((world ring run).nodes id).durable in record { pairs_in_order = go id (runs_engine ring id) refl (x.nodes id); tailer = (x.nodes id).tailer }),
       λ id s up. record {
         pairs_in_log = kept_in_log id s up (runs_engine ring id) refl;
@@ -174,5 +174,5 @@ every_node_keeps_pairs ring run lawful =
     go id false is e = empty_has ((world ring run).nodes id).durable (e.tailer is)
 
     kept_in_log : (id : ℕ) (s : Soft) → ((world ring run).nodes id).soft ≡ Some s → (b : Bool) → runs_engine ring id ≡ b → kept_pairs ((world ring run).nodes id).durable ≡ ((world ring run).nodes id).durable.prepared
-    kept_in_log id s up true is = let r = (held ring run).running id s up is in clean_kept ((world ring run).nodes id).durable r.k r.clean
-    kept_in_log id s up false is = let z = ((held ring run).nodes id).tailer is in ap (filter (λ (p : Pair). has_opid ((world ring run).nodes id).durable.log p.opid)) z.1 ∙ sym z.1
+    kept_in_log id s up true is = let r = (held ring run lawful).running id s up is in clean_kept ((world ring run).nodes id).durable r.k r.clean
+    kept_in_log id s up false is = let z = ((held ring run lawful).nodes id).tailer is in ap (filter (λ (p : Pair). has_opid ((world ring run).nodes id).durable.log p.opid)) z.1 ∙ sym z.1

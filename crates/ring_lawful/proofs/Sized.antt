@@ -20,11 +20,16 @@ use Rattle.ring_model.specs.declared.messages.Message.{Message}
 use Rattle.ring_model.specs.declared.nodes.Durable.{Durable}
 use Rattle.ring_model.specs.Actions.{all_done, done, has_room, is_prepared, pair_of, vote_in, vote_limit, votes_above}
 use Rattle.ring_model.specs.Steps.{engine_actions, follow_actions, prepare_entry}
-use Rattle.ring_model.proofs.Lists.{both_true}
+use Rattle.ring_model.proofs.Lists.{all_of, both_true}
 use Rattle.ring_lawful.proofs.Along.{Allowed, allowed_join}
+use Rattle.ring_lawful.proofs.Pairs.{at_contains}
+use Rattle.ring_types.specs.declared.entries.Payload.{Payload}
+use Rattle.ring_types.specs.declared.entries.Payload.TheVariants as payload
+use Rattle.ring_types.specs.declared.values.Txn.{Txn}
+use Rattle.ring_types.specs.Rows.{payload_fits}
 
 abbrev pub entry_fits : Layout → Entry → Bool
-entry_fits ring e = nat_le (group_bytes ring.schema e.payload) group_limit && nat_lt e.opid.position (2 ^ 62)
+entry_fits ring e = nat_le (group_bytes ring.schema e.payload) group_limit && nat_lt e.opid.position (2 ^ 62) && payload_fits ring.schema e.payload
 
 -- how many entries end a file, from the first on
 abbrev pub turns : List Entry → ℕ
@@ -52,8 +57,8 @@ abbrev pub May : Layout → Durable → Action → Type 0
 May ring d (action.SetTerm t) = (d.term < t) × (t < 2 ^ 62)
 May ring d (action.Vote v floor) = (has_room floor d.votes ≡ true) × (v.term ≡ d.term) × (vote_in d.votes d.term ≡ None)
 May ring d (action.Append es) = (list_all (entry_fits ring) es ≡ true) × (turns d.log + turns es ≤ 999998)
-May ring d (action.Truncate p) = Unit {0}
-May ring d (action.Prepare p) = Unit {0}
+May ring d (action.Truncate p) = p ≤ length d.log
+May ring d (action.Prepare p) = (payload_fits ring.schema (payload.Txn p.txn) ≡ true) × (group_bytes ring.schema (payload.Txn p.txn) ≤ group_limit)
 May ring d (action.Commit p) = Unit {0}
 May ring d (action.RollBackAfter p) = Unit {0}
 May ring d (action.DropPairs opids) = Unit {0}
@@ -203,28 +208,59 @@ sized_one ring d (action.DropPairs opids) m x = sized_at ring d (done d (action.
 pub sized_same : (ring : Layout) (d e : Durable) → e.term ≡ d.term → e.votes ≡ d.votes → e.log ≡ d.log → Sized ring d → Sized ring e
 sized_same ring d e t v l x = sized_at ring d e t v l x
 
--- ---- the engine's actions are always allowed here
-prepare_may : (ring : Layout) (d : Durable) (pairs : List Pair) (o : Option Entry) → Allowed (May ring) d (prepare_entry pairs o)
-prepare_may ring d pairs None = tt
-prepare_may ring d pairs (Some e) = go (pair_of e) (is_prepared pairs e.opid)
+-- ---- the engine's actions are allowed where the log's entries fit
+pair_fits : (ring : Layout) (e : Entry) (p : Pair) → entry_fits ring e ≡ true → pair_of e ≡ Some p → (payload_fits ring.schema (payload.Txn p.txn) ≡ true) × (group_bytes ring.schema (payload.Txn p.txn) ≤ group_limit)
+pair_fits ring e p fit has = go e.payload refl has
   where
-    go : (a : Option Pair) (b : Bool) → Allowed (May ring) d (elim a [ None ↦ [] | Some p ↦ if b then [] else action.Prepare p ∷ [] ])
-    go None b = tt
-    go (Some p) true = tt
-    go (Some p) false = (tt, tt)
+    low : (n : ℕ) → nat_le n group_limit ≡ true → n ≤ group_limit
+    low n x = grind (arith, nat_tests, x)
 
-engine_may : (ring : Layout) (n a : ℕ) (d : Durable) (l : List Entry) (pairs : List Pair) → Allowed (May ring) d (engine_actions l pairs a n)
-engine_may ring zero a d l pairs = tt
-engine_may ring (suc n) a d l pairs =
-    allowed_join (May ring) d (prepare_entry pairs (entry_at l (suc a))) (action.Commit (suc a) ∷ engine_actions l pairs (suc a) n) (prepare_may ring d pairs (entry_at l (suc a)))
-    (tt, engine_may ring n (suc a) (done (all_done d (prepare_entry pairs (entry_at l (suc a)))) (action.Commit (suc a))) l pairs)
+    one : (t : Txn) → e.payload ≡ payload.Txn t → (payload_fits ring.schema (payload.Txn t) ≡ true) × (group_bytes ring.schema (payload.Txn t) ≤ group_limit)
+    one t is =
+        let a = both_true (nat_le (group_bytes ring.schema e.payload) group_limit && nat_lt e.opid.position (2 ^ 62)) (payload_fits ring.schema e.payload) fit in
+        let b = both_true (nat_le (group_bytes ring.schema e.payload) group_limit) (nat_lt e.opid.position (2 ^ 62)) a.0 in
+        (subst (λ (p : Payload). payload_fits ring.schema p ≡ true) is a.1, low (group_bytes ring.schema (payload.Txn t)) (subst (λ (p : Payload). nat_le (group_bytes ring.schema p) group_limit ≡ true) is b.0))
 
-pub follow_may : (ring : Layout) (me : ℕ) (d : Durable) (c : ℕ) → Allowed (May ring) d (follow_actions ring me d c)
-follow_may ring me d c = go (runs_engine ring me)
+    go : (b : Payload) → e.payload ≡ b → pair_of e ≡ Some p → (payload_fits ring.schema (payload.Txn p.txn) ≡ true) × (group_bytes ring.schema (payload.Txn p.txn) ≤ group_limit)
+    go payload.NoOp is has = absurd (let z : pair_of e ≡ None = rw is refl in cc)
+    go payload.Rotate is has = absurd (let z : pair_of e ≡ None = rw is refl in cc)
+    go (payload.Txn t) is has =
+        let z : pair_of e ≡ Some (record { opid = e.opid; txn = t }) = rw is refl in
+        let same : record { opid = e.opid; txn = t } ≡ p = (let w : Some (record { opid = e.opid; txn = t }) ≡ Some p = sym z ∙ has in cc) in
+        subst (λ (q : Pair). (payload_fits ring.schema (payload.Txn q.txn) ≡ true) × (group_bytes ring.schema (payload.Txn q.txn) ≤ group_limit)) same (one t is)
+
+prepare_fits : (ring : Layout) (d : Durable) (pairs : List Pair) (e : Entry) → entry_fits ring e ≡ true → Allowed (May ring) d (prepare_entry pairs (Some e))
+prepare_fits ring d pairs e fit = go (pair_of e) refl (is_prepared pairs e.opid)
+  where
+    go : (a : Option Pair) → pair_of e ≡ a → (c : Bool) → Allowed (May ring) d (elim a [ None ↦ [] | Some p ↦ if c then [] else action.Prepare p ∷ [] ])
+    go None is c = tt
+    go (Some p) is true = tt
+    go (Some p) is false = (pair_fits ring e p fit is, tt)
+
+prepare_may : (ring : Layout) (d : Durable) (pairs : List Pair) (l : List Entry) (k : ℕ) → list_all (entry_fits ring) l ≡ true → Allowed (May ring) d (prepare_entry pairs (entry_at l k))
+prepare_may ring d pairs l k fit = go (entry_at l k) refl
+  where
+    go : (o : Option Entry) → entry_at l k ≡ o → Allowed (May ring) d (prepare_entry pairs o)
+    go None is = tt
+    go (Some e) is = prepare_fits ring d pairs e (all_of (entry_fits ring) l e fit (at_contains l k e is))
+
+engine_may : (ring : Layout) (n a : ℕ) (d : Durable) (l : List Entry) (pairs : List Pair) → list_all (entry_fits ring) l ≡ true → Allowed (May ring) d (engine_actions l pairs a n)
+engine_may ring zero a d l pairs fit = tt
+engine_may ring (suc n) a d l pairs fit =
+    allowed_join (May ring) d (prepare_entry pairs (entry_at l (suc a))) (action.Commit (suc a) ∷ engine_actions l pairs (suc a) n) (prepare_may ring d pairs l (suc a) fit)
+    (tt, engine_may ring n (suc a) (done (all_done d (prepare_entry pairs (entry_at l (suc a)))) (action.Commit (suc a))) l pairs fit)
+
+pub follow_may : (ring : Layout) (me : ℕ) (d : Durable) (c : ℕ) → list_all (entry_fits ring) d.log ≡ true → Allowed (May ring) d (follow_actions ring me d c)
+follow_may ring me d c fit = go (runs_engine ring me)
   where
     go : (b : Bool) → Allowed (May ring) d (if b then engine_actions d.log d.prepared d.applied (c - d.applied) else [])
-    go true = engine_may ring (c - d.applied) d.applied d d.log d.prepared
+    go true = engine_may ring (c - d.applied) d.applied d d.log d.prepared fit
     go false = tt
+
+-- what is left after allowed actions
+pub sized_after : (ring : Layout) (d : Durable) (actions : List Action) → Allowed (May ring) d actions → Sized ring d → Sized ring (all_done d actions)
+sized_after ring d [] a x = x
+sized_after ring d (s ∷ actions) a x = sized_after ring (done d s) actions a.1 (sized_one ring d s a.0 x)
 
 -- ---- messages
 abbrev pub BodyFits : Layout → Body → Type 0
@@ -233,6 +269,7 @@ BodyFits ring (body.VoteReply reply) = reply.term < 2 ^ 62
 BodyFits ring (body.Append sent) = (sent.term < 2 ^ 62) × (list_all (entry_fits ring) sent.entries ≡ true)
 BodyFits ring (body.AppendReply answer) = answer.term < 2 ^ 62
 BodyFits ring (body.ProxyAppend sent) = sent.term < 2 ^ 62
+BodyFits ring (body.ClientWrite changes) = ⊥
 BodyFits ring _ = Unit {0}
 
 abbrev pub AllFit : Layout → List Message → Type 0

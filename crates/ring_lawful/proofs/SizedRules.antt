@@ -13,8 +13,8 @@ use Rattle.ring_types.specs.declared.entries.Vote.{Vote}
 use Rattle.ring_types.specs.declared.members.Member.{Member}
 use Rattle.ring_types.specs.declared.values.Change.{Change}
 use Rattle.ring_types.specs.Rings.{Layout, is_voter, runs_engine, votes}
-use Rattle.ring_types.specs.Rows.{check}
-use Rattle.ring_types.specs.Gtids.{next_number}
+use Rattle.ring_types.specs.Rows.{change_fits, check, is_number, payload_fits}
+use Rattle.ring_types.specs.Gtids.{greatest_number, next_number}
 use Rattle.ring_types.specs.Rings.{server_of}
 use Rattle.ring_types.specs.Logs.{at_least, entry_at, is_rotate, last, rotates, same_opid, term_at}
 use Rattle.ring_types.specs.Sizes.{group_bytes, group_limit, group_size}
@@ -52,7 +52,8 @@ use Rattle.ring_model.proofs.Lists.{all_of, both_true}
 use Rattle.ring_model.proofs.Paths.{done_join}
 use Rattle.ring_lawful.proofs.Along.{Allowed, allowed_join}
 use Rattle.ring_lawful.proofs.Pairs.{at_contains}
-use Rattle.ring_lawful.proofs.Sized.{AllFit, BodyFits, May, Sized, all_drop, all_join, all_take, entry_fits, fit_join, follow_may, none_later, rotates_is, turns, turns_take}
+use Rattle.ring_lawful.proofs.Payloads.{checked_fit, number_fits}
+use Rattle.ring_lawful.proofs.Sized.{AllFit, BodyFits, May, Sized, all_drop, all_join, all_take, entry_fits, fit_join, follow_may, none_later, rotates_is, sized_after, turns, turns_take}
 
 -- a candidate's log has room for its NoOp
 abbrev pub IsShort : Durable → Soft → Type 0
@@ -80,29 +81,29 @@ pub raise_keeps : (ring : Layout) (t : ℕ) (d : Durable) (s : Soft) (ms : List 
 raise_keeps ring t d s ms says up fits fit = record { allowed = ((up, fits), tt); short = follower_short (done d (action.SetTerm t)) (demoted s) refl; sent = fit }
 
 -- ---- a leader's step
-advance_keeps : (ring : Layout) (me : ℕ) (d : Durable) (s : Soft) (first : List Action) (says : List Say) → Allowed (May ring) d first → s.role ≡ Leader → Keeps ring d (advance ring me d s first says)
+advance_keeps : (ring : Layout) (me : ℕ) (d : Durable) (s : Soft) (first : List Action) (says : List Say) → Sized ring d → Allowed (May ring) d first → s.role ≡ Leader → Keeps ring d (advance ring me d s first says)
 unfolding advance
-advance_keeps ring me d s first says a role = record {
-  allowed = allowed_join (May ring) d first (follow_actions ring me (all_done d first) (commit_count ring me (all_done d first).term (all_done d first).log s)) a (follow_may ring me (all_done d first) (commit_count ring me (all_done d first).term (all_done d first).log s));
+advance_keeps ring me d s first says x a role = record {
+  allowed = allowed_join (May ring) d first (follow_actions ring me (all_done d first) (commit_count ring me (all_done d first).term (all_done d first).log s)) a (follow_may ring me (all_done d first) (commit_count ring me (all_done d first).term (all_done d first).log s) (sized_after ring d first a x).entries);
   short = λ bad. absurd (let z : Leader ≡ Candidate = sym role ∙ bad in cc);
   sent = tt;
 }
 
-own_fits : (ring : Layout) (me : ℕ) (d : Durable) (p : Payload) → group_bytes ring.schema p ≤ 1000000 → suc (length d.log) < 2 ^ 62 → list_all (entry_fits ring) (own_entry ring me d p ∷ []) ≡ true
-own_fits ring me d p small short =
+own_fits : (ring : Layout) (me : ℕ) (d : Durable) (p : Payload) → group_bytes ring.schema p ≤ 1000000 → suc (length d.log) < 2 ^ 62 → payload_fits ring.schema p ≡ true → list_all (entry_fits ring) (own_entry ring me d p ∷ []) ≡ true
+own_fits ring me d p small short fit =
     let a : nat_le (group_bytes ring.schema p) 1000000 ≡ true = grind (arith, nat_tests, small) in
     let b : nat_lt (suc (length d.log)) (2 ^ 62) ≡ true = grind (arith, nat_tests, short) in
-    rw (a, b) refl
+    rw (a, b, fit) refl
 
-ask_keeps : (ring : Layout) (me : ℕ) (d : Durable) (s : Soft) (first : List Action) (says : List Say) (grants : List Grant) (asks : List Message) → Allowed (May ring) d first → length (all_done d first).log < 2 ^ 62 - 1
+ask_keeps : (ring : Layout) (me : ℕ) (d : Durable) (s : Soft) (first : List Action) (says : List Say) (grants : List Grant) (asks : List Message) → Sized ring d → Allowed (May ring) d first → length (all_done d first).log < 2 ^ 62 - 1
     → turns (all_done d first).log ≤ 999998 → AllFit ring asks → Keeps ring d (lead_or_ask ring me d s first says grants asks)
 unfolding lead_or_ask
-ask_keeps ring me d s first says grants asks a short few fit = go (has_won ring me (all_done d first) grants)
+ask_keeps ring me d s first says grants asks x a short few fit = go (has_won ring me (all_done d first) grants)
   where
     go : (b : Bool) → Keeps ring d (if b then lead ring me d s first says grants else stepped first asks says (record s { role = Candidate; grants = grants }))
-    go true = advance_keeps ring me d (leading ring me (suc (length (all_done d first).log)) s grants) (first ++ (action.Append (own_entry ring me (all_done d first) payload.NoOp ∷ []) ∷ [])) says
+    go true = advance_keeps ring me d (leading ring me (suc (length (all_done d first).log)) s grants) (first ++ (action.Append (own_entry ring me (all_done d first) payload.NoOp ∷ []) ∷ [])) says x
         (allowed_join (May ring) d first (action.Append (own_entry ring me (all_done d first) payload.NoOp ∷ []) ∷ []) a
-        ((own_fits ring me (all_done d first) payload.NoOp (omega arith) (omega (arith, short)), omega (arith, few)), tt)) refl
+        ((own_fits ring me (all_done d first) payload.NoOp (omega arith) (omega (arith, short)) refl, omega (arith, few)), tt)) refl
     go false = record { allowed = a; short = λ is. short; sent = fit }
 
 requests_fit : (ring : Layout) (me term : ℕ) (asked : Opid) (members : List Member) → term < 2 ^ 62 → AllFit ring (requests me term asked members)
@@ -133,7 +134,7 @@ elect_keeps ring me d s x short = go (may_elect ring me d s) refl
     stands : MayStand d s → Keeps ring d (stand ring me d s)
     stands m =
         let low = m.term in
-        ask_keeps ring me d (demoted s) (stand_actions ring me d s) (unknowns s) _ _
+        ask_keeps ring me d (demoted s) (stand_actions ring me d s) (unknowns s) _ _ x
         ((omega arith, omega (arith, low)), ((m.room, refl, none_later d.votes d.term (suc d.term) (omega arith) x.below), tt)) m.length x.files
         (requests_fit ring me (suc d.term) (last d.log) ring.members (omega (arith, low)))
 
@@ -146,7 +147,7 @@ unfolding on_reply
 reply_keeps ring me from reply d s x short fits = go s.role refl
   where
     count : s.role ≡ Candidate → (b : Bool) → Keeps ring d (if b then lead_or_ask ring me d s [] [] (s.grants ++ record { voter = from; votes = reply.votes } ∷ []) [] else idle s)
-    count role true = ask_keeps ring me d s [] [] (s.grants ++ record { voter = from; votes = reply.votes } ∷ []) [] tt (short role) x.files tt
+    count role true = ask_keeps ring me d s [] [] (s.grants ++ record { voter = from; votes = reply.votes } ∷ []) [] x tt (short role) x.files tt
     count role false = idle_keeps ring d s short
 
     hears : s.role ≡ Candidate → (b : Bool) → nat_lt d.term reply.term ≡ b → Keeps ring d (if b then stepped (action.SetTerm reply.term ∷ []) [] (unknowns s) (demoted s)
@@ -218,14 +219,14 @@ leads_is s is = go s.role refl
     go Candidate x = absurd (let z : false ≡ true = sym (ap is_leader x) ∙ is in cc)
     go Leader x = x
 
-ack_keeps : (ring : Layout) (me from : ℕ) (answer : AppendReply) (d : Durable) (s : Soft) → IsShort d s → answer.term < 2 ^ 62 → Keeps ring d (on_ack ring me d s from answer)
+ack_keeps : (ring : Layout) (me from : ℕ) (answer : AppendReply) (d : Durable) (s : Soft) → Sized ring d → IsShort d s → answer.term < 2 ^ 62 → Keeps ring d (on_ack ring me d s from answer)
 unfolding on_ack
-ack_keeps ring me from answer d s short fits = go (nat_lt d.term answer.term) refl (counts d s answer) refl
+ack_keeps ring me from answer d s sized short fits = go (nat_lt d.term answer.term) refl (counts d s answer) refl
   where
     go : (a : Bool) → nat_lt d.term answer.term ≡ a → (b : Bool) → counts d s answer ≡ b
         → Keeps ring d (if a then stepped (action.SetTerm answer.term ∷ []) [] (unknowns s) (demoted s) else (if b then leader_hears ring me d s from answer else idle s))
     go true x b y = raise_keeps ring answer.term d s [] (unknowns s) (grind (arith, nat_tests, x)) fits tt
-    go false x true y = advance_keeps ring me d (record s { peers = heard_among s.peers from answer.ok answer.position }) [] [] tt (leads_is s (both_true (is_leader s.role) (answer.term == d.term) (both_true (is_leader s.role && answer.term == d.term) (nat_le answer.position (length d.log)) y).0).0)
+    go false x true y = advance_keeps ring me d (record s { peers = heard_among s.peers from answer.ok answer.position }) [] [] sized tt (leads_is s (both_true (is_leader s.role) (answer.term == d.term) (both_true (is_leader s.role && answer.term == d.term) (nat_le answer.position (length d.log)) y).0).0)
     go false x false y = idle_keeps ring d s short
 
 over_fit : (ring : Layout) (me from : ℕ) (d : Durable) (peers : List Peer) (t : Transfer) → AllFit ring (after_ok me d peers from t)
@@ -238,12 +239,12 @@ over_fit ring me from d peers (transfer.Handing target client) = go (target == f
     go true false = tt
     go false b = tt
 
-pub answered_keeps : (ring : Layout) (me from : ℕ) (answer : AppendReply) (d : Durable) (s : Soft) → IsShort d s → answer.term < 2 ^ 62 → Keeps ring d (on_answer ring me d s from answer)
+pub answered_keeps : (ring : Layout) (me from : ℕ) (answer : AppendReply) (d : Durable) (s : Soft) → Sized ring d → IsShort d s → answer.term < 2 ^ 62 → Keeps ring d (on_answer ring me d s from answer)
 unfolding on_answer
-answered_keeps ring me from answer d s short fits = go (counts d s answer && answer.ok)
+answered_keeps ring me from answer d s x short fits = go (counts d s answer && answer.ok)
   where
     b : Keeps ring d (on_ack ring me d s from answer)
-    b = ack_keeps ring me from answer d s short fits
+    b = ack_keeps ring me from answer d s x short fits
 
     go : (a : Bool) → Keeps ring d (if a then with_more (on_ack ring me d s from answer) (after_ok me d (on_ack ring me d s from answer).soft.peers from s.transfer) else on_ack ring me d s from answer)
     go true = record { allowed = b.allowed; short = b.short; sent = fit_join ring (on_ack ring me d s from answer).plan.messages (after_ok me d (on_ack ring me d s from answer).soft.peers from s.transfer) b.sent (over_fit ring me from d (on_ack ring me d s from answer).soft.peers s.transfer) }
@@ -254,6 +255,7 @@ record MayWrite (ring : Layout) (me : ℕ) (d : Durable) (s : Soft) (changes : L
   leads : s.role ≡ Leader
   small : group_bytes ring.schema (payload.Txn (write_txn ring me d changes)) ≤ 1000000
   short : suc (length d.log) < 2 ^ 62
+  fits : payload_fits ring.schema (payload.Txn (write_txn ring me d changes)) ≡ true
 
 small_is : (n : ℕ) → nat_lt 1000000 (min n (2 ^ 64 - 1)) ≡ false → n ≤ 1000000
 small_is n is = grind (arith, nat_tests, is)
@@ -265,15 +267,20 @@ second_false : (a b : Bool) → (a || b) ≡ false → b ≡ false
 second_false false b is = is
 second_false true b is = absurd (let z : true ≡ false = is in cc)
 
-sizes_fit : (ring : Layout) (me : ℕ) (d : Durable) (changes : List Change) → size_refusal ring me d changes ≡ None → (group_bytes ring.schema (payload.Txn (write_txn ring me d changes)) ≤ 1000000) × (suc (length d.log) < 2 ^ 62)
+first_false : (a b : Bool) → (a || b) ≡ false → a ≡ false
+first_false false b is = refl
+first_false true b is = absurd (let z : true ≡ false = is in cc)
+
+sizes_fit : (ring : Layout) (me : ℕ) (d : Durable) (changes : List Change) → size_refusal ring me d changes ≡ None
+    → (group_bytes ring.schema (payload.Txn (write_txn ring me d changes)) ≤ 1000000) × (suc (length d.log) < 2 ^ 62) × (is_number (write_txn ring me d changes).gtid.number ≡ true)
 sizes_fit ring me d changes is = go (nat_lt group_limit (group_size ring.schema (payload.Txn (write_txn ring me d changes)))) refl (is_exhausted ring me d) refl is
   where
     go : (a : Bool) → nat_lt group_limit (group_size ring.schema (payload.Txn (write_txn ring me d changes))) ≡ a → (b : Bool) → is_exhausted ring me d ≡ b
         → (if a then Some (cause.TooLarge (group_size ring.schema (payload.Txn (write_txn ring me d changes)))) else (if b then Some cause.Exhausted else None)) ≡ None
-        → (group_bytes ring.schema (payload.Txn (write_txn ring me d changes)) ≤ 1000000) × (suc (length d.log) < 2 ^ 62)
+        → (group_bytes ring.schema (payload.Txn (write_txn ring me d changes)) ≤ 1000000) × (suc (length d.log) < 2 ^ 62) × (is_number (write_txn ring me d changes).gtid.number ≡ true)
     go true x b y is = absurd cc
     go false x true y is = absurd cc
-    go false x false y is = (small_is (group_bytes ring.schema (payload.Txn (write_txn ring me d changes))) x, short_is (length d.log) (second_false _ (nat_le length_limit (length d.log)) y))
+    go false x false y is = (small_is (group_bytes ring.schema (payload.Txn (write_txn ring me d changes))) x, short_is (length d.log) (second_false _ (nat_le length_limit (length d.log)) y), number_fits (greatest_number (server_of ring me) d.log) (first_false _ (nat_le length_limit (length d.log)) y))
 
 lock_asked : (ring : Layout) (me : ℕ) (d : Durable) (changes : List Change) → lock_refusal ring me d changes ≡ None → size_refusal ring me d changes ≡ None
 lock_asked ring me d changes is = go (lock_of d.prepared changes) is
@@ -289,9 +296,19 @@ change_asked ring me d changes is = go (check ring.schema (committed_rows ring d
     go (Some r) is = absurd cc
     go None is = lock_asked ring me d changes is
 
-may_write : (ring : Layout) (me : ℕ) (d : Durable) (s : Soft) (changes : List Change) → write_refusal ring me d s changes ≡ None → MayWrite ring me d s changes
+change_checked : (ring : Layout) (me : ℕ) (d : Durable) (changes : List Change) → change_refusal ring me d changes ≡ None → check ring.schema (committed_rows ring d) changes ≡ None
+change_checked ring me d changes is = go (check ring.schema (committed_rows ring d) changes) refl is
+  where
+    go : (o : Option RowRefusal) → check ring.schema (committed_rows ring d) changes ≡ o → ◌≡◌ {A = Option Cause} (elim o [ Some r ↦ Some (cause.Invalid r) | None ↦ lock_refusal ring me d changes ]) None → check ring.schema (committed_rows ring d) changes ≡ None
+    go (Some r) x is = absurd cc
+    go None x is = x
+
+all_three : (a b c : Bool) → a ≡ true → b ≡ true → c ≡ true → ((a && b) && c) ≡ true
+all_three a b c x y z = rw (x, y, z) refl
+
+may_write : (ring : Layout) (me : ℕ) (d : Durable) (s : Soft) (changes : List Change) → nat_lt 0 (length changes) ≡ true → write_refusal ring me d s changes ≡ None → MayWrite ring me d s changes
 unfolding write_refusal
-may_write ring me d s changes is = go (is_leader s.role) refl (is_ready s) (runs_engine ring me) (is_handing s.transfer) is
+may_write ring me d s changes some is = go (is_leader s.role) refl (is_ready s) (runs_engine ring me) (is_handing s.transfer) is
   where
     go : (a : Bool) → is_leader s.role ≡ a → (b c e : Bool)
         → (if not a then Some cause.NotLeader else (if not b then Some cause.NotReady else (if not c then Some cause.NoEngine else (if e then Some cause.Transferring else change_refusal ring me d changes)))) ≡ None → MayWrite ring me d s changes
@@ -299,21 +316,26 @@ may_write ring me d s changes is = go (is_leader s.role) refl (is_ready s) (runs
     go true x false c e is = absurd cc
     go true x true false e is = absurd cc
     go true x true true true is = absurd cc
-    go true x true true false is = let y = sizes_fit ring me d changes (change_asked ring me d changes is) in record { leads = leads_is s x; small = y.0; short = y.1 }
+    go true x true true false is = 
+        let y = sizes_fit ring me d changes (change_asked ring me d changes is) in
+        let c = checked_fit ring.schema (committed_rows ring d) changes (change_checked ring me d changes is) in
+        let a : nat_le 1 (length changes) ≡ true = grind (arith, nat_tests, some) in
+        let n = y.2 in
+        record { leads = leads_is s x; small = y.0; short = y.1; fits = all_three (nat_le 1 (length changes)) (list_all (change_fits ring.schema) changes) (is_number (write_txn ring me d changes).gtid.number) a c n }
 
-pub write_keeps : (ring : Layout) (me client : ℕ) (changes : List Change) (d : Durable) (s : Soft) → Sized ring d → IsShort d s → Keeps ring d (write ring me d s client changes)
+pub write_keeps : (ring : Layout) (me client : ℕ) (changes : List Change) (d : Durable) (s : Soft) → nat_lt 0 (length changes) ≡ true → Sized ring d → IsShort d s → Keeps ring d (write ring me d s client changes)
 unfolding write
-write_keeps ring me client changes d s x short = go (write_refusal ring me d s changes) refl
+write_keeps ring me client changes d s some x short = go (write_refusal ring me d s changes) refl
   where
     go : (c : Option Cause) → write_refusal ring me d s changes ≡ c
         → Keeps ring d (elim c [ Some c ↦ refused s client c | None ↦ write_entry_step ring me d s client (write_txn ring me d changes) (write_entry ring me d changes) ])
     go (Some c) is = quiet_keeps ring d s s [] _ short refl tt
     go None is =
-        let m = may_write ring me d s changes is in
+        let m = may_write ring me d s changes some is in
         let e : Entry = write_entry ring me d changes in
         let n = x.files in
-        advance_keeps ring me d (awaits s client e (write_txn ring me d changes).gtid) (action.Prepare (record { opid = e.opid; txn = write_txn ring me d changes }) ∷ action.Append (e ∷ []) ∷ []) []
-        (tt, ((own_fits ring me d (payload.Txn (write_txn ring me d changes)) m.small m.short, omega (arith, n)), tt)) m.leads
+        advance_keeps ring me d (awaits s client e (write_txn ring me d changes).gtid) (action.Prepare (record { opid = e.opid; txn = write_txn ring me d changes }) ∷ action.Append (e ∷ []) ∷ []) [] x
+        ((m.fits, m.small), ((own_fits ring me d (payload.Txn (write_txn ring me d changes)) m.small m.short m.fits, omega (arith, n)), tt)) m.leads
 
 record MayRotate (d : Durable) (s : Soft) : Type 0 where
   leads : s.role ≡ Leader
@@ -349,7 +371,7 @@ rotate_keeps ring me client d s x short = go (rotate_refusal ring me d s) refl
     go None is =
         let m = may_rotate ring me d s is in
         let n = m.files in
-        advance_keeps ring me d s (action.Append (own_entry ring me d payload.Rotate ∷ []) ∷ []) _ ((own_fits ring me d payload.Rotate (omega arith) m.short, omega (arith, n)), tt) m.leads
+        advance_keeps ring me d s (action.Append (own_entry ring me d payload.Rotate ∷ []) ∷ []) _ x ((own_fits ring me d payload.Rotate (omega arith) m.short refl, omega (arith, n)), tt) m.leads
 
 -- ---- what a member does with an Append
 rest_fits : (ring : Layout) (log : List Entry) (q : ℕ) (es : List Entry) → list_all (entry_fits ring) es ≡ true → (list_all (entry_fits ring) (unmatched log q es) ≡ true) × (turns (unmatched log q es) ≤ turns es)
@@ -370,7 +392,7 @@ rest_fits ring log q (e ∷ es) fit = go (nat_lt q (length log) && term_at log (
 
 taken_may : (ring : Layout) (me kept : ℕ) (d e : Durable) (rest : List Entry) → e.log ≡ d.log → list_all (entry_fits ring) rest ≡ true → turns d.log + turns rest ≤ 999998 → Allowed (May ring) e (take_in ring me d kept rest)
 taken_may ring me kept d e [] l fit few = tt
-taken_may ring me kept d e (x ∷ rest) l fit few = go (nat_lt kept (length d.log)) (runs_engine ring me)
+taken_may ring me kept d e (x ∷ rest) l fit few = go (nat_lt kept (length d.log)) refl (runs_engine ring me)
   where
     cut : turns (take kept e.log) + turns (x ∷ rest) ≤ 999998
     cut = let a = turns_take kept e.log in let b : turns e.log ≡ turns d.log = ap turns l in omega (arith, a, b, few)
@@ -378,12 +400,15 @@ taken_may ring me kept d e (x ∷ rest) l fit few = go (nat_lt kept (length d.lo
     all : turns e.log + turns (x ∷ rest) ≤ 999998
     all = let b : turns e.log ≡ turns d.log = ap turns l in omega (arith, b, few)
 
-    go : (b c : Bool) → Allowed (May ring) e (if b then action.Truncate kept ∷ ((if c then action.RollBackAfter kept ∷ [] else []) ++ (action.Append (x ∷ rest) ∷ [])) else action.Append (x ∷ rest) ∷ [])
-    go true true = (tt, (tt, ((fit, cut), tt)))
-    go true false = (tt, ((fit, cut), tt))
-    go false c = ((fit, all), tt)
+    high : nat_lt kept (length d.log) ≡ true → kept ≤ length e.log
+    high is = let n : length e.log ≡ length d.log = ap length l in grind (arith, nat_tests, is, n)
 
-module _ (ring : Layout) (me : ℕ) (d : Durable) (s : Soft) (first : List Action) (says : List Say) (sent : Append) (a : Allowed (May ring) d first) (l : (all_done d first).log ≡ d.log) (role : s.role ≡ Follower)
+    go : (b : Bool) → nat_lt kept (length d.log) ≡ b → (c : Bool) → Allowed (May ring) e (if b then action.Truncate kept ∷ ((if c then action.RollBackAfter kept ∷ [] else []) ++ (action.Append (x ∷ rest) ∷ [])) else action.Append (x ∷ rest) ∷ [])
+    go true is true = (high is, (tt, ((fit, cut), tt)))
+    go true is false = (high is, ((fit, cut), tt))
+    go false is c = ((fit, all), tt)
+
+module _ (ring : Layout) (me : ℕ) (d : Durable) (s : Soft) (first : List Action) (says : List Say) (sent : Append) (x : Sized ring d) (a : Allowed (May ring) d first) (l : (all_done d first).log ≡ d.log) (role : s.role ≡ Follower)
     (fits : sent.term < 2 ^ 62) (fit : list_all (entry_fits ring) sent.entries ≡ true) (few : turns d.log + turns sent.entries ≤ 999998) where
   accept_keeps : Keeps ring d (accept ring me d s first says sent)
   accept_keeps =
@@ -393,7 +418,8 @@ module _ (ring : Layout) (me : ℕ) (d : Durable) (s : Soft) (first : List Actio
       let acts : List Action = take_in ring me d kept rest in
       let n = r.1 in
       record {
-        allowed = allowed_join (May ring) d first _ a (allowed_join (May ring) (all_done d first) acts _ (taken_may ring me kept d (all_done d first) rest l r.0 (omega (arith, n, few))) (follow_may ring me (all_done (all_done d first) acts) _));
+        allowed = allowed_join (May ring) d first _ a (allowed_join (May ring) (all_done d first) acts _ (taken_may ring me kept d (all_done d first) rest l r.0 (omega (arith, n, few)))
+            (follow_may ring me (all_done (all_done d first) acts) _ (sized_after ring (all_done d first) acts (taken_may ring me kept d (all_done d first) rest l r.0 (omega (arith, n, few))) (sized_after ring d first a x)).entries));
         short = λ bad. absurd (let z : Follower ≡ Candidate = sym role ∙ bad in cc);
         sent = (fits, tt);
       }
@@ -410,15 +436,15 @@ module _ (ring : Layout) (me : ℕ) (d : Durable) (s : Soft) (first : List Actio
       go false true = accept_keeps
       go false false = refusing_keeps (sent.prev.position - 1)
 
-follow_keeps : (ring : Layout) (me : ℕ) (d : Durable) (s : Soft) (sent : Append) → IsShort d s → sent.term < 2 ^ 62 → list_all (entry_fits ring) sent.entries ≡ true → turns d.log + turns sent.entries ≤ 999998 → Keeps ring d (follow_append ring me d s sent)
-follow_keeps ring me d s sent short fits fit few = go (nat_lt d.term sent.term) refl s.role refl
+follow_keeps : (ring : Layout) (me : ℕ) (d : Durable) (s : Soft) (sent : Append) → Sized ring d → IsShort d s → sent.term < 2 ^ 62 → list_all (entry_fits ring) sent.entries ≡ true → turns d.log + turns sent.entries ≤ 999998 → Keeps ring d (follow_append ring me d s sent)
+follow_keeps ring me d s sent x short fits fit few = go (nat_lt d.term sent.term) refl s.role refl
   where
     go : (b : Bool) → nat_lt d.term sent.term ≡ b → (o : Role) → s.role ≡ o
         → Keeps ring d (if b then match_append ring me d (demoted s) (action.SetTerm sent.term ∷ []) (unknowns s) sent
         else elim o [ Follower ↦ match_append ring me d s [] [] sent | Candidate ↦ match_append ring me d (demoted s) [] (unknowns s) sent | Leader ↦ idle s ])
-    go true y o z = match_keeps ring me d (demoted s) (action.SetTerm sent.term ∷ []) (unknowns s) sent ((grind (arith, nat_tests, y), fits), tt) refl refl fits fit few
-    go false y Follower z = match_keeps ring me d s [] [] sent tt refl z fits fit few
-    go false y Candidate z = match_keeps ring me d (demoted s) [] (unknowns s) sent tt refl refl fits fit few
+    go true y o z = match_keeps ring me d (demoted s) (action.SetTerm sent.term ∷ []) (unknowns s) sent x ((grind (arith, nat_tests, y), fits), tt) refl refl fits fit few
+    go false y Follower z = match_keeps ring me d s [] [] sent x tt refl z fits fit few
+    go false y Candidate z = match_keeps ring me d (demoted s) [] (unknowns s) sent x tt refl refl fits fit few
     go false y Leader z = idle_keeps ring d s short
 
 files_are : (a b : ℕ) → nat_lt file_limit (suc a + b) ≡ false → a + b ≤ 999998
@@ -438,7 +464,7 @@ append_keeps ring me sent d s x short fits fit = go (outgrows d sent) refl (nat_
         let n = files_are (rotates d.log) (rotates sent.entries) y in
         let p = rotates_is d.log in
         let q = rotates_is sent.entries in
-        follow_keeps ring me d s sent short fits fit (omega (arith, n, p, q))
+        follow_keeps ring me d s sent x short fits fit (omega (arith, n, p, q))
 
 -- ---- what a leader sends, and its proxy
 sends_fit : (ring : Layout) (me : ℕ) (d : Durable) (s : Soft) (peers : List Peer) → Sized ring d → AllFit ring (map (beat_to ring me d s) peers)

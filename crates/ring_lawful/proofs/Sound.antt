@@ -8,6 +8,7 @@ use Rattle.ring_types.specs.declared.entries.Opid.{Opid}
 use Rattle.ring_types.specs.declared.members.Member.{Member}
 use Rattle.ring_types.specs.Logs.{entry_at, rotates}
 use Rattle.ring_types.specs.Rings.{Layout, is_voter, votes}
+use Rattle.ring_types.specs.Rows.{payload_fits}
 use Rattle.ring_types.specs.Sizes.{group_bytes, group_limit}
 use Rattle.ring_model.specs.declared.effects.Action.TheVariants as action
 use Rattle.ring_model.specs.declared.effects.Cause.{Cause}
@@ -34,7 +35,7 @@ use Rattle.ring_model.specs.Dispatch.{body_step, deliver, is_foreign, step}
 use Rattle.ring_model.specs.Elections.{elect}
 use Rattle.ring_model.specs.Nodes.{IsSound, empty_durable, fresh_soft, is_follower, is_leader, recover, stray_opids}
 use Rattle.ring_model.specs.Quorums.{is_listed}
-use Rattle.ring_model.specs.Runs.{Move, world}
+use Rattle.ring_model.specs.Runs.{IsRun, Move, is_whole_input, world}
 use Rattle.ring_model.specs.Steps.{idle, message, stepped}
 use Rattle.ring_model.specs.Transfers.{ask_transfer, begin_mock, begin_round, cancel, count_answer, deciding, hand_over, has_matched, is_off, is_old_round, mock_hears, mock_requests, mock_result, on_mock_reply, on_mock_request, on_mock_result, on_mock_start, on_timeout, opening, own_failed, own_passed, passes, result_heard, transfer_hears, transfer_refusal, verdict, with_answer}
 use Rattle.ring_model.specs.Worlds.{restart_actions}
@@ -168,40 +169,40 @@ body_keeps : (ring : Layout) (me from : ℕ) (d : Durable) (s : Soft) (b : Body)
 body_keeps ring me from d s (body.RequestVote asked) x short f = request_keeps ring me from asked d s x short f
 body_keeps ring me from d s (body.VoteReply reply) x short f = reply_keeps ring me from reply d s x short f
 body_keeps ring me from d s (body.Append sent) x short f = append_keeps ring me sent d s x short f.0 f.1
-body_keeps ring me from d s (body.AppendReply answer) x short f = answered_keeps ring me from answer d s short f
+body_keeps ring me from d s (body.AppendReply answer) x short f = answered_keeps ring me from answer d s x short f
 body_keeps ring me from d s (body.ProxyAppend sent) x short f = relay_keeps ring me from sent d s x short f
 body_keeps ring me from d s (body.MockStart sent) x short f = start_keeps ring me from sent d s short
 body_keeps ring me from d s (body.MockRequest sent) x short f = asked_keeps ring me from sent d s short
 body_keeps ring me from d s (body.MockReply sent) x short f = mock_reply_keeps ring me from sent d s short
 body_keeps ring me from d s (body.MockResult sent) x short f = mock_result_keeps ring me sent d s short
 body_keeps ring me from d s (body.TimeoutNow term) x short f = timeout_keeps ring me d s term x short
-body_keeps ring me from d s (body.ClientWrite changes) x short f = write_keeps ring me from changes d s x short
+body_keeps ring me from d s (body.ClientWrite changes) x short f = absurd f
 body_keeps ring me from d s body.ClientRotate x short f = rotate_keeps ring me from d s x short
 body_keeps ring me from d s (body.ClientTransfer target) x short f = transfer_keeps ring me from target d s short
 body_keeps ring me from d s body.ClientCancel x short f = cancel_keeps ring from d s short
 body_keeps ring me from d s (body.ClientReply what) x short f = idle_keeps ring d s short
 
-step_keeps : (ring : Layout) (me : ℕ) (messages : List Message) (d : Durable) (s : Soft) (i : Input) → IsGiven messages me i → ((m : Message) → Contains messages m → BodyFits ring m.body) → Sized ring d → IsShort d s → Keeps ring d (step ring me d s i)
-step_keeps ring me messages d s input.Elect given fit x short = elect_keeps ring me d s x short
-step_keeps ring me messages d s input.Beat given fit x short = beat_keeps ring me d s x short
-step_keeps ring me messages d s (input.Deliver m) given fit x short = go (is_foreign ring me m)
+pub step_keeps : (ring : Layout) (me : ℕ) (messages : List Message) (d : Durable) (s : Soft) (i : Input) → IsGiven messages me i → is_whole_input i ≡ true → ((m : Message) → Contains messages m → BodyFits ring m.body) → Sized ring d → IsShort d s → Keeps ring d (step ring me d s i)
+step_keeps ring me messages d s input.Elect given whole fit x short = elect_keeps ring me d s x short
+step_keeps ring me messages d s input.Beat given whole fit x short = beat_keeps ring me d s x short
+step_keeps ring me messages d s (input.Deliver m) given whole fit x short = go (is_foreign ring me m)
   where
     go : (b : Bool) → Keeps ring d (if b then idle s else body_step ring me d s m.from m.body)
     go true = idle_keeps ring d s short
     go false = body_keeps ring me m.from d s m.body x short (fit m given.0)
-step_keeps ring me messages d s (input.Write client changes) given fit x short = write_keeps ring me client changes d s x short
-step_keeps ring me messages d s (input.Rotate client) given fit x short = rotate_keeps ring me client d s x short
-step_keeps ring me messages d s (input.Transfer client target) given fit x short = transfer_keeps ring me client target d s short
-step_keeps ring me messages d s (input.Cancel client) given fit x short = cancel_keeps ring client d s short
+step_keeps ring me messages d s (input.Write client changes) given whole fit x short = write_keeps ring me client changes d s whole x short
+step_keeps ring me messages d s (input.Rotate client) given whole fit x short = rotate_keeps ring me client d s x short
+step_keeps ring me messages d s (input.Transfer client target) given whole fit x short = transfer_keeps ring me client target d s short
+step_keeps ring me messages d s (input.Cancel client) given whole fit x short = cancel_keeps ring client d s short
 
 -- ---- every step
-abbrev SizedAt : Layout → ℕ → Durable → Type 0
+abbrev pub SizedAt : Layout → ℕ → Durable → Type 0
 SizedAt ring id d = Sized ring d
 
-abbrev ShortAt : ℕ → Durable → Soft → Type 0
+abbrev pub ShortAt : ℕ → Durable → Soft → Type 0
 ShortAt id d s = IsShort d s
 
-abbrev FitsIn : Layout → Message → Type 0
+abbrev pub FitsIn : Layout → Message → Type 0
 FitsIn ring m = BodyFits ring m.body
 
 partly_sized : (ring : Layout) (d : Durable) (n : ℕ) (o : List Opid) → Sized ring d → Sized ring (all_done d (take n (elim o [ [] ↦ [] | o ∷ opids ↦ action.DropPairs (o ∷ opids) ∷ [] ])))
@@ -214,9 +215,9 @@ partly_sized ring d (suc (suc n)) (o ∷ opids) x = sized_same ring d (done d (a
 sized_kept : (ring : Layout) → IsKeptByAll ring (SizedAt ring) ShortAt (FitsIn ring)
 sized_kept ring = record {
   first = λ id. record { term = omega arith; entries = refl; files = omega arith; few = omega arith; rise = tt; below = refl };
-  steps = λ h id d s i k n r given sent x short.
+  steps = λ h id d s i k n r given whole sent x short.
       let st = step ring id d s i in
-      let b = step_keeps ring id h.messages d s i given sent x short in
+      let b = step_keeps ring id h.messages d s i given whole sent x short in
       let along : Along (Sized ring) d st.plan.actions = allowed_along (May ring) (Sized ring) (sized_one ring) d st.plan.actions b.allowed x in
       record { cut = λ c. along_cut (Sized ring) d st.plan.actions c along; whole = along_end (Sized ring) d st.plan.actions along; soft = b.short; sent = λ m in_m. fit_each ring st.plan.messages m b.sent in_m };
   recovers = λ h id d n x. sized_same ring d (recover d) refl refl refl x;
@@ -224,8 +225,8 @@ sized_kept ring = record {
   starts = λ h id d n x bad. absurd cc;
 }
 
-pub sized_always : (ring : Layout) (run : List Move) → Holds (SizedAt ring) ShortAt (FitsIn ring) (world ring run)
-sized_always ring run = holds_always ring (SizedAt ring) ShortAt (FitsIn ring) (sized_kept ring) run
+pub sized_always : (ring : Layout) (run : List Move) → IsRun ring run → Holds (SizedAt ring) ShortAt (FitsIn ring) (world ring run)
+sized_always ring run lawful = holds_always ring (SizedAt ring) ShortAt (FitsIn ring) (sized_kept ring) run lawful
 
 within_some : (xs : List Entry) (k : ℕ) → k < length xs → (e : Entry) × (slice_get xs k ≡ Some e)
 within_some [] k lt = absurd (omega arith)
@@ -233,14 +234,14 @@ within_some (x ∷ xs) zero lt = (x, refl)
 within_some (x ∷ xs) (suc k) lt = within_some xs k (omega arith)
 
 -- the last entry's position is the length
-short_log : (ring : Layout) (log : List Entry) → Placed log → list_all (entry_fits ring) log ≡ true → length log < 2 ^ 62
+pub short_log : (ring : Layout) (log : List Entry) → Placed log → list_all (entry_fits ring) log ≡ true → length log < 2 ^ 62
 short_log ring log placed fit = go (length log) refl
   where
     go : (n : ℕ) → length log ≡ n → length log < 2 ^ 62
     go zero is = omega (arith, is)
     go (suc k) is =
         let e = within_some log k (omega (arith, is)) in
-        let f = all_of (entry_fits ring) log e.0 fit (at_contains log (suc k) e.0 e.1) in
+        let f = (both_true (nat_le (group_bytes ring.schema e.0.payload) group_limit && nat_lt e.0.opid.position (2 ^ 62)) (payload_fits ring.schema e.0.payload) (all_of (entry_fits ring) log e.0 fit (at_contains log (suc k) e.0 e.1))).0 in
         let g = (both_true (nat_le (group_bytes ring.schema e.0.payload) group_limit) (nat_lt e.0.opid.position (2 ^ 62)) f).1 in
         let p = placed (suc k) e.0 e.1 in
         let q : suc k < 2 ^ 62 = near e.0.opid.position (suc k) g p in
@@ -252,7 +253,7 @@ short_log ring log placed fit = go (length log) refl
 pub every_node_is_sound : EveryNodeIsSound
 every_node_is_sound ring run lawful id =
     let d : Durable = ((world ring run).nodes id).durable in
-    let x : Sized ring d = (sized_always ring run).nodes id in
+    let x : Sized ring d = (sized_always ring run lawful).nodes id in
     let r = reached ring run in
     let o = node_order ring r.history id d (r.world.nodes id) in
     let p = (every_node_keeps_pairs ring run lawful).0 id in
@@ -260,7 +261,8 @@ every_node_is_sound ring run lawful id =
     let q = rotates_is d.log in
     record {
       log = record { placed = o.placed; rises = o.rises; short = short_log ring d.log o.placed x.entries; few_files = omega (arith, f, q) };
-      groups_fit = all_weaker (entry_fits ring) (λ (e : Entry). nat_le (group_bytes ring.schema e.payload) group_limit) d.log (λ e is. (both_true (nat_le (group_bytes ring.schema e.payload) group_limit) (nat_lt e.opid.position (2 ^ 62)) is).0) x.entries;
+      groups_fit = all_weaker (entry_fits ring) (λ (e : Entry). nat_le (group_bytes ring.schema e.payload) group_limit) d.log
+          (λ e is. (both_true (nat_le (group_bytes ring.schema e.payload) group_limit) (nat_lt e.opid.position (2 ^ 62)) (both_true (nat_le (group_bytes ring.schema e.payload) group_limit && nat_lt e.opid.position (2 ^ 62)) (payload_fits ring.schema e.payload) is).0).0) x.entries;
       few_votes = x.few;
       votes_rise = increasing d.votes x.rise;
       votes_below = x.below;
@@ -272,4 +274,4 @@ every_node_is_sound ring run lawful id =
     }
 
 pub every_run_keeps_candidates_short : EveryRunKeepsCandidatesShort
-every_run_keeps_candidates_short ring run lawful id s up = (sized_always ring run).running id s up
+every_run_keeps_candidates_short ring run lawful id s up = (sized_always ring run lawful).running id s up

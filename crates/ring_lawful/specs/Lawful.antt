@@ -8,8 +8,13 @@ use Rattle.ring_model.specs.declared.nodes.Durable.{Durable}
 use Rattle.ring_model.specs.declared.nodes.Soft.{Soft}
 use Rattle.ring_model.specs.declared.nodes.Peer.{Peer}
 use Rattle.ring_model.specs.declared.nodes.Role.TheVariants.{Candidate, Leader}
-use Rattle.ring_model.specs.Runs.{Move, world, IsRun}
-use Rattle.ring_model.specs.Actions.{pairs_in, entries_between}
+use Rattle.ring_model.specs.Runs.{Move, world, IsRun, is_whole_input}
+use Rattle.ring_model.specs.Worlds.{restart_actions}
+use Rattle.ring_model.specs.Dispatch.{step}
+use Rattle.ring_model.specs.declared.messages.Message.{Message}
+use Rattle.ring_model.specs.declared.messages.Input.{Input}
+use Rattle.ring_model.specs.declared.messages.Input.TheVariants as input
+use Rattle.ring_model.specs.Actions.{ArePossible, pairs_in, entries_between}
 use Rattle.ring_model.specs.Nodes.{IsLawful, IsSound, ArePairsAbove, kept_pairs, is_ready}
 use Rattle.ring_model.specs.Safety.{Runs, PreparedAgrees}
 
@@ -63,3 +68,16 @@ EveryRunKeepsCandidatesShort = (ring : Layout) (run : List Move) → IsRun ring 
 -- ---- lawful
 abbrev pub EveryRunningNodeIsLawful : Type 0
 EveryRunningNodeIsLawful = (ring : Layout) (run : List Move) → IsRun ring run → (id : ℕ) (s : Soft) → Runs (world ring run) id s → IsLawful ring id ((world ring run).nodes id).durable s
+
+-- ---- possible
+-- a message that a node is given was sent to it
+abbrev pub WasSent : List Message → ℕ → Input → Type 0
+WasSent messages id (input.Deliver m) = Contains messages m × (m.to ≡ id)
+WasSent messages id _ = Unit {0}
+
+-- the actions that a running node plans on any input that it may be given are possible in turn, and so is what a restart does first
+abbrev pub EveryPlanIsPossible : Type 0
+EveryPlanIsPossible = (ring : Layout) (run : List Move) → IsRun ring run
+    → ((id : ℕ) (s : Soft) → Runs (world ring run) id s → (i : Input) → WasSent (world ring run).messages id i → is_whole_input i ≡ true
+    → ArePossible ring.schema ((world ring run).nodes id).durable (step ring id ((world ring run).nodes id).durable s i).plan.actions)
+    × ((id : ℕ) → ArePossible ring.schema ((world ring run).nodes id).durable (restart_actions ((world ring run).nodes id).durable))

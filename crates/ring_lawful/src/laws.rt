@@ -1,4 +1,4 @@
-ghost use Rattle.ring_lawful.specs.Lawful.{EveryNodeIsSound, EveryNodeKeepsOrder, EveryNodeKeepsPairs, EveryRunPreparesInOrder, EveryRunningNodeIsLawful};
+ghost use Rattle.ring_lawful.specs.Lawful.{EveryNodeIsSound, EveryNodeKeepsOrder, EveryNodeKeepsPairs, EveryPlanIsPossible, EveryRunPreparesInOrder, EveryRunningNodeIsLawful};
 
 /// In the world after any run of any ring each node's log has its entries in their places, with terms
 /// that do not fall and are at most the node's own; what it applied is in its log; and on a running
@@ -31,4 +31,10 @@ pub fn law_sound()
 /// In the world after any run of any ring each running node is lawful.
 pub fn law_lawful()
     ensures { EveryRunningNodeIsLawful }
+{}
+
+/// In the world after any run of any ring the actions that a running node plans, on any input that it
+/// may be given, are possible, each where its turn comes; and so is what a restart does first.
+pub fn law_possible()
+    ensures { EveryPlanIsPossible }
 {}

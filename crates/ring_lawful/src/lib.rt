@@ -7,4 +7,4 @@
 
 mod laws;
 
-pub use laws::{law_lawful, law_order, law_pairs, law_prepared_agrees, law_sound};
+pub use laws::{law_lawful, law_order, law_pairs, law_possible, law_prepared_agrees, law_sound};

@@ -1,0 +1,136 @@
+-- In every world of every run the actions that a running node plans are possible, each where its turn comes.
+use Rattle.std.proofs.Common.{◌≡◌, ℕ, ◌^◌, ◌<◌, ◌≤◌, ◌&&◌, [], ◌∷◌, ◌∙◌, Bool, List, Some, ap, arith, false, length, refl, subst, suc, sym, take, true, zero}
+use Rattle.std.specs.Prelude.{nat_le, nat_lt}
+use Rattle.std.specs.List.{Contains, list_all}
+use Rattle.ring_types.specs.declared.entries.Entry.{Entry}
+use Rattle.ring_types.specs.declared.entries.Opid.{Opid}
+use Rattle.ring_types.specs.Logs.{IsLog, rotates}
+use Rattle.ring_types.specs.Rings.{Layout, runs_engine}
+use Rattle.ring_types.specs.Rows.{payload_fits, payloads_fit}
+use Rattle.ring_types.specs.Sizes.{group_bytes, group_limit}
+use Rattle.ring_model.specs.declared.effects.Action.{Action}
+use Rattle.ring_model.specs.declared.effects.Action.TheVariants as action
+use Rattle.ring_model.specs.declared.messages.Input.{Input}
+use Rattle.ring_model.specs.declared.messages.Input.TheVariants as input
+use Rattle.ring_model.specs.declared.messages.Message.{Message}
+use Rattle.ring_model.specs.declared.nodes.Durable.{Durable}
+use Rattle.ring_model.specs.declared.nodes.Soft.{Soft}
+use Rattle.ring_model.specs.Actions.{ArePossible, IsPossible, all_done, done}
+use Rattle.ring_model.specs.Dispatch.{step}
+use Rattle.ring_model.specs.Nodes.{stray_opids}
+use Rattle.ring_model.specs.Runs.{IsRun, Move, is_whole_input, world}
+use Rattle.ring_model.specs.Worlds.{restart_actions}
+use Rattle.ring_model.proofs.Dispatch.{IsGiven, step_row}
+use Rattle.ring_model.proofs.Invariant.{History, IsHistory, IsNode, IsRunning}
+use Rattle.ring_model.proofs.Lists.{both_true}
+use Rattle.ring_model.proofs.Paths.{path_cut, path_keeps}
+use Rattle.ring_model.proofs.Runs.{reached}
+use Rattle.ring_model.proofs.Turns.{IsRow}
+use Rattle.ring_lawful.specs.Lawful.{EveryPlanIsPossible, KeepsOrder, WasSent}
+use Rattle.ring_lawful.proofs.Along.{Allowed, Along, allowed_along, along_cut}
+use Rattle.ring_lawful.proofs.Engine.{Can}
+use Rattle.ring_lawful.proofs.EngineDispatch.{row_fits, step_both}
+use Rattle.ring_lawful.proofs.EngineRules.{AllTail, Both, IsTail}
+use Rattle.ring_lawful.proofs.EngineSteps.{EngineRuns}
+use Rattle.ring_lawful.proofs.Order.{node_order}
+use Rattle.ring_lawful.proofs.Pairs.{take_short}
+use Rattle.ring_lawful.proofs.Prepared.{held}
+use Rattle.ring_lawful.proofs.Sized.{May, Sized, all_weaker, entry_fits, rotates_is, sized_one}
+use Rattle.ring_lawful.proofs.SizedRules.{Keeps}
+use Rattle.ring_lawful.proofs.Sound.{short_log, sized_always, step_keeps}
+
+-- what holds before and after each action
+record Good (ring : Layout) (d : Durable) : Type 0 where
+  log : IsLog d.log
+  payloads : payloads_fit ring.schema d.log ≡ true
+  applied : d.applied ≤ length d.log
+
+good : (ring : Layout) (d : Durable) → KeepsOrder d → Sized ring d → Good ring d
+good ring d o x =
+    let f = x.files in
+    let q = rotates_is d.log in
+    record {
+      log = record { placed = o.placed; rises = o.rises; short = short_log ring d.log o.placed x.entries; few_files = omega (arith, f, q) };
+      payloads = all_weaker (entry_fits ring) (λ (e : Entry). payload_fits ring.schema e.payload) d.log (λ e is. (both_true (nat_le (group_bytes ring.schema e.payload) group_limit && nat_lt e.opid.position (2 ^ 62)) (payload_fits ring.schema e.payload) is).1) x.entries;
+      applied = o.applied_inside;
+    }
+
+along_from : (P : Durable → Type 0) (d : Durable) (actions : List Action) → ((n : ℕ) → P (all_done d (take n actions))) → Along P d actions
+along_from P d [] each = each 0
+along_from P d (a ∷ actions) each = (each 0, along_from P (done d a) actions (λ n. each (suc n)))
+
+along_here : (P : Durable → Type 0) (d : Durable) (actions : List Action) → Along P d actions → P d
+along_here P d [] x = x
+along_here P d (a ∷ actions) x = x.0
+
+possible_one : (ring : Layout) (d : Durable) (a : Action) → Good ring d → Good ring (done d a) → May ring d a → Can d a → IsPossible ring.schema d a
+possible_one ring d (action.SetTerm t) x y m c = m.0
+possible_one ring d (action.Vote v floor) x y m c = m
+possible_one ring d (action.Append es) x y m c = (y.log, y.payloads)
+possible_one ring d (action.Truncate p) x y m c = (let a = y.applied in let b = take_short p d.log in omega (arith, a, b), m)
+possible_one ring d (action.Prepare p) x y m c = (c, m.0, m.1)
+possible_one ring d (action.Commit p) x y m c = c
+possible_one ring d (action.RollBackAfter p) x y m c = tt
+possible_one ring d (action.DropPairs opids) x y m c = tt
+
+possible_all : (ring : Layout) (d : Durable) (actions : List Action) → Along (Good ring) d actions → Allowed (May ring) d actions → Allowed Can d actions → ArePossible ring.schema d actions
+possible_all ring d [] g m c = tt
+possible_all ring d (a ∷ actions) g m c = (possible_one ring d a g.0 (along_here (Good ring) (done d a) actions g.1) m.0 c.0, possible_all ring (done d a) actions g.1 m.1 c.1)
+
+tail_one : (d : Durable) (a : Action) → IsTail a → Can d a
+tail_one d (action.SetTerm term) t = tt
+tail_one d (action.Vote vote floor) t = tt
+tail_one d (action.Append entries) t = tt
+tail_one d (action.Truncate position) t = tt
+tail_one d (action.Prepare pair) t = absurd t
+tail_one d (action.Commit position) t = absurd t
+tail_one d (action.RollBackAfter position) t = absurd t
+tail_one d (action.DropPairs opids) t = absurd t
+
+tail_can : (d : Durable) (actions : List Action) → AllTail actions → Allowed Can d actions
+tail_can d [] t = tt
+tail_can d (a ∷ actions) t = (tail_one d a t.0, tail_can (done d a) actions t.1)
+
+given_is : (messages : List Message) (id : ℕ) (i : Input) → WasSent messages id i → IsGiven messages id i
+given_is messages id (input.Deliver m) x = x
+given_is messages id input.Elect x = tt
+given_is messages id input.Beat x = tt
+given_is messages id (input.Write client changes) x = tt
+given_is messages id (input.Rotate client) x = tt
+given_is messages id (input.Transfer client target) x = tt
+given_is messages id (input.Cancel client) x = tt
+
+restart_possible : (ring : Layout) (d : Durable) → ArePossible ring.schema d (restart_actions d)
+restart_possible ring d = go (stray_opids d)
+  where
+    go : (o : List Opid) → ArePossible ring.schema d (elim o [ [] ↦ [] | o ∷ opids ↦ action.DropPairs (o ∷ opids) ∷ [] ])
+    go [] = tt
+    go (o ∷ opids) = (tt, tt)
+
+pub every_plan_is_possible : EveryPlanIsPossible
+every_plan_is_possible ring run lawful = (λ id s up i given whole. plan id s up i given whole, λ id. restart_possible ring ((world ring run).nodes id).durable)
+  where
+    plan : (id : ℕ) (s : Soft) → ((world ring run).nodes id).soft ≡ Some s → (i : Input) → WasSent (world ring run).messages id i → is_whole_input i ≡ true
+        → ArePossible ring.schema ((world ring run).nodes id).durable (step ring id ((world ring run).nodes id).durable s i).plan.actions
+    plan id s up i given whole =
+        let d : Durable = ((world ring run).nodes id).durable in
+        let st = step ring id d s i in
+        let r = reached ring run in
+        let h = r.history in
+        let k = r.world in
+        let sized = sized_always ring run lawful in
+        let row = step_row ring h id d s i k.history (k.nodes id) (k.running id s up) (given_is h.messages id i (subst (λ (ms : List Message). WasSent ms id i) (sym k.messages) given)) in
+        let b = step_both ring id d s i (row_fits ring h id d s st k.history (k.nodes id) row) in
+        let x : Sized ring d = sized.nodes id in
+        let keeps = step_keeps ring id (world ring run).messages d s i (given_is (world ring run).messages id i given) whole sized.messages x (sized.running id s up) in
+        let along = allowed_along (May ring) (Sized ring) (sized_one ring) d st.plan.actions keeps.allowed x in
+        let each : (n : ℕ) → Good ring (all_done d (take n st.plan.actions)) = λ n.
+        (let c = path_cut ring id h row.acted d st.plan.actions n row.path in
+        good ring (all_done d (take n st.plan.actions)) (node_order ring c.0 id (all_done d (take n st.plan.actions)) (path_keeps ring id h c.0 d (take n st.plan.actions) k.history (k.nodes id) c.1).node)
+        (along_cut (Sized ring) d st.plan.actions n along)) in
+        possible_all ring d st.plan.actions (along_from (Good ring) d st.plan.actions each) keeps.allowed (go (runs_engine ring id) refl b)
+      where
+        go : (e : Bool) → runs_engine ring id ≡ e → Both ring id ((world ring run).nodes id).durable s (step ring id ((world ring run).nodes id).durable s i)
+            → Allowed Can ((world ring run).nodes id).durable (step ring id ((world ring run).nodes id).durable s i).plan.actions
+        go true is b = (b.engine is ((held ring run lawful).running id s up is)).can
+        go false is b = tail_can ((world ring run).nodes id).durable (step ring id ((world ring run).nodes id).durable s i).plan.actions (b.tail is)
