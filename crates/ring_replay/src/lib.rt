@@ -7,6 +7,7 @@
 
 mod beginnings;
 mod engines;
+mod fronts;
 mod messages;
 mod replays;
 mod turns;

@@ -1,9 +1,10 @@
-ghost use Rattle.std.specs.Prelude.{◌≡◌, ◌+◌, ◌^◌, ◌<◌, ◌++◌, IfOk, OnOk, drop, length, map};
+ghost use Rattle.std.specs.Prelude.{◌≡◌, ◌+◌, ◌^◌, ◌<◌, ◌++◌, IfOk, OnOk, length, map};
 ghost use Rattle.ring_types.specs.Rings as rings;
 ghost use Rattle.ring_model.specs.Worlds as spec;
 ghost use Rattle.ring_model.specs.Runs as runs;
 ghost use Rattle.ring_replay.specs.Steps as steps;
 
+use crate::fronts::items_after;
 use ring_model::{Input, Line, Message, Said, Say};
 use ring_types::{Duplicate, List, Memory, NodeId, Ring};
 use std::alloc::Global;
@@ -81,21 +82,12 @@ fn first_to(messages: &[Message], node: u32, cursor: u64) -> Option<u64>
     None
 }
 
-fn sent_after(messages: &[Message], cursor: u64) -> &[Message]
-    ensures { result.now ≡ drop cursor messages.now }
-{
-    match messages.get(cursor as usize..) {
-        Some(rest) => rest,
-        None => &[],
-    }
-}
-
 /// The number of the first message to a node above its cursor.
 #[tactic(auto, using(crate::proofs::Sent::next_from_cursor))]
 pub(crate) fn next_to(messages: &[Message], node: u32, cursor: u64) -> Option<u64>
     ensures { result ≡ spec.next_from 1 messages.now node cursor }
 {
-    first_to(sent_after(messages, cursor), node, cursor)
+    first_to(items_after(messages, cursor), node, cursor)
 }
 
 /// What a node says in an event, at the end of what was said.
