@@ -1,5 +1,5 @@
 -- The rows that an engine has applied, after an action: what keeps them, and what the next entry makes of them.
-use Rattle.std.proofs.Common.{◌≡◌, ℕ, zero, suc, ◌+◌, ◌-◌, ◌≤◌, List, [], ◌∷◌, ◌++◌, length, take, drop, Some, refl, ap, sym, ◌∙◌, arith}
+use Rattle.std.proofs.Common.{◌≡◌, ℕ, zero, suc, ◌≤◌, List, [], ◌∷◌, ◌++◌, length, take, Some, refl, ap, arith}
 use Rattle.std.specs.Prelude.{slice_get}
 use Rattle.std.proofs.lemmas.List.{take-append-le}
 use Rattle.ring_types.specs.declared.entries.Entry.{Entry}
@@ -41,15 +41,3 @@ take_shorter (suc a) (suc p) (x ∷ xs) le = ap (λ zs. x ∷ zs) (take_shorter 
 
 pub rows_truncated : (ring : Layout) (d : Durable) (position : ℕ) → d.applied ≤ position → committed_rows ring (done d (action.Truncate position)) ≡ committed_rows ring d
 rows_truncated ring d position le = rw (take_shorter d.applied position d.log le) refl
-
--- a beginning, and what follows it up to a count
-front_more : {X : Type 0} (n k m : ℕ) (xs : List X) → n + k ≡ m → take n xs ++ take k (drop n xs) ≡ take m xs
-front_more zero k m xs is = let e : k ≡ m = omega arith in rw e refl
-front_more (suc n) k zero xs is = absurd (omega arith)
-front_more (suc n) zero (suc m) [] is = refl
-front_more (suc n) (suc k) (suc m) [] is = refl
-front_more (suc n) k (suc m) (x ∷ xs) is = ap (λ zs. x ∷ zs) (front_more n k m xs (omega arith))
-
-pub longer_front : {X : Type 0} (xs ys : List X) (count : ℕ) → take (length xs) ys ≡ xs → length xs ≤ count → xs ++ take (count - length xs) (drop (length xs) ys) ≡ take count ys
-longer_front xs ys count front longer =
-    ap (λ zs. zs ++ take (count - length xs) (drop (length xs) ys)) (sym front) ∙ front_more (length xs) (count - length xs) count ys (omega arith)

@@ -1,17 +1,12 @@
-ghost use Rattle.std.specs.Prelude.{◌≡◌, IsTrue, drop, length, take};
+ghost use Rattle.std.specs.Prelude.{◌≡◌, ◌≤◌, IsTrue, OnOk, length, take};
+ghost use Rattle.ring_model.specs.Worlds as spec;
+ghost use Rattle.ring_replay.specs.Steps.{node_of};
 
-use ring_plain::same_value;
-use ring_types::{Change, Entry, Payload, Value};
-
-/// The items after the first `count`, lent.
-pub(crate) fn items_after<T>(items: &[T], count: u64) -> &[T]
-    ensures { result.now ≡ drop count items.now }
-{
-    match items.get(count as usize..) {
-        Some(rest) => rest,
-        None => &[],
-    }
-}
+use crate::lists::items_after;
+use ring_model::Shown;
+use ring_plain::{first_items, same_value};
+use ring_types::{Change, Entry, List, Memory, Payload, Value};
+use std::alloc::Global;
 
 fn are_one_value(a: &Value, b: &Value) -> bool
     ensures { IsTrue result → a.now ≡ b.now }
@@ -92,7 +87,7 @@ fn are_one_entry(a: &Entry, b: &Entry) -> bool
 }
 
 /// Whether the log begins with these entries.
-pub(crate) fn begins_with(log: &[Entry], front: &[Entry]) -> bool
+fn begins_with(log: &[Entry], front: &[Entry]) -> bool
     ensures { IsTrue result → take (length front.now) log.now ≡ front.now }
 {
     for (i, entry) in front.iter().enumerate() {
@@ -102,4 +97,47 @@ pub(crate) fn begins_with(log: &[Entry], front: &[Entry]) -> bool
         }
     }
     true
+}
+
+/// How far a node shows that it went.
+fn reach(shown: &Shown) -> u64
+    ensures { result ≡ spec.reach (node_of shown.now) }
+{
+    match &shown.soft {
+        None => shown.durable.applied,
+        Some(soft) => soft.commit,
+    }
+}
+
+/// Lengthens a beginning of the log to so many entries.
+#[tactic(auto, using(crate::proofs::Fronts::longer_front))]
+fn lengthen(
+    alloc: Global,
+    chosen: &mut List<Entry>,
+    log: &[Entry],
+    count: u64,
+) -> Result<(), Memory>
+    requires front { take (length chosen.old) log.now ≡ chosen.old }
+    requires longer { length chosen.old ≤ count }
+    ensures { OnOk result (chosen.new ≡ take count log.now) }
+{
+    let known = chosen.len() as u64;
+    let more = first_items(alloc, items_after(log, known), count - known)?;
+    chosen.append(more)
+}
+
+/// The chosen sequence after an event of this node.
+pub(crate) fn grow(alloc: Global, chosen: &mut List<Entry>, shown: &Shown) -> Result<(), Memory>
+    ensures { OnOk result (chosen.new ≡ spec.grown chosen.old (node_of shown.now)) }
+{
+    let log = shown.durable.log.as_slice();
+    let reach = reach(shown);
+    if (chosen.len() as u64) < reach {
+        if begins_with(log, chosen.as_slice()) {
+            lengthen(alloc, chosen, log, reach)?;
+        } else {
+            *chosen = first_items(alloc, log, reach)?;
+        }
+    }
+    Ok(())
 }
