@@ -1,4 +1,5 @@
 pub mod Applying
+pub mod Fronts
 pub mod Held
 pub mod Law
 pub mod Places

@@ -1,25 +1,15 @@
-ghost use Rattle.std.specs.Prelude.{◌≡◌, ◌<◌, IfOk, OnOk, Some, map, slice_get, slice_set, vec_len};
+ghost use Rattle.std.specs.Prelude.{◌≡◌, IfOk, Some, map};
 ghost use Rattle.ring_types.specs.declared.members.Member.{Member};
 ghost use Rattle.ring_types.specs.Rows as rows;
 ghost use Rattle.ring_model.specs.Nodes as nodes;
 ghost use Rattle.ring_model.specs.Worlds as spec;
-ghost use Rattle.ring_replay.specs.Steps.{node_of, nobody};
+ghost use Rattle.ring_replay.specs.Steps.{nobody};
 
 use crate::turns::fresh_soft;
 use ring_model::{Durable, Shown};
-use ring_plain::{Tables, empty_tables, first_items};
-use ring_types::{Entry, List, Memory, NodeId, Ring};
+use ring_plain::{Tables, empty_tables};
+use ring_types::{List, Memory, NodeId, Ring};
 use std::alloc::Global;
-use std::mem;
-
-/// Puts an item in the place of another, and gives that one. Takes no memory.
-pub(crate) fn replaced<T>(items: &mut Vec<T>, place: usize, item: T) -> T
-    requires { place < vec_len items.old }
-    ensures set { items.new.items ≡ slice_set items.old.items place item }
-    ensures was { slice_get items.old.items place ≡ Some result }
-{
-    mem::replace(&mut items[place], item)
-}
 
 fn empty_durable(alloc: Global) -> Durable
     ensures { result ≡ nodes.empty_durable }
@@ -42,27 +32,6 @@ pub(crate) fn nobody(alloc: Global) -> Shown
         durable: empty_durable(alloc),
         soft: None,
     }
-}
-
-/// How far a node shows that it went.
-fn reach(shown: &Shown) -> u64
-    ensures { result ≡ spec.reach (node_of shown.now) }
-{
-    match &shown.soft {
-        None => shown.durable.applied,
-        Some(soft) => soft.commit,
-    }
-}
-
-/// The chosen sequence after an event of this node.
-pub(crate) fn grow(alloc: Global, chosen: &mut List<Entry>, shown: &Shown) -> Result<(), Memory>
-    ensures { OnOk result (chosen.new ≡ spec.grown chosen.old (node_of shown.now)) }
-{
-    let reach = reach(shown);
-    if (chosen.len() as u64) < reach {
-        *chosen = first_items(alloc, shown.durable.log.as_slice(), reach)?;
-    }
-    Ok(())
 }
 
 fn first_node(alloc: Global, node: NodeId) -> Shown

@@ -3,12 +3,12 @@ ghost use Rattle.ring_types.specs.Rows as rows;
 ghost use Rattle.ring_model.specs.Actions as spec;
 ghost use Rattle.ring_model.specs.Writes.{committed_rows};
 ghost use Rattle.ring_model.specs.declared.effects.Action.TheVariants as action;
-ghost use Rattle.ring_replay.specs.Applying.{HasRows};
+ghost use Rattle.ring_replay.specs.Applying.{HasRows, accepted};
 
 use ring_model::{Action, Durable};
-use ring_plain::{Tables, applied, entry_at, joined, rows};
+use ring_plain::{Tables, changed, entry_at, joined, refusal_of, rows};
 use ring_step::done;
-use ring_types::{Entry, List, Memory, Payload, Ring, Schema};
+use ring_types::{Change, Entry, List, Memory, Payload, Ring, Schema};
 use std::alloc::Global;
 
 /// The entries that the engine has applied.
@@ -28,6 +28,49 @@ pub(crate) fn all_rows(alloc: Global, ring: &Ring, durable: &Durable) -> Result<
     rows(alloc, ring.schema(), applied_entries(durable))
 }
 
+/// The tables after changes of which they accept each in its turn; None where they refuse one.
+fn accepted(
+    alloc: Global,
+    schema: &Schema,
+    tables: Tables,
+    changes: &[Change],
+) -> Result<Option<Tables>, Memory>
+    ensures { IfOk result (λ it. it ≡ accepted schema.now tables changes.now) }
+{
+    let mut current = tables;
+    for change in changes {
+        match refusal_of(schema, current.as_slice(), change) {
+            Some(_) => return Ok(None),
+            None => current = changed(alloc, schema, current.as_slice(), change)?,
+        }
+    }
+    Ok(Some(current))
+}
+
+/// The tables after a transaction, which leaves them where one of its changes is refused.
+fn applied(
+    alloc: Global,
+    schema: &Schema,
+    tables: Tables,
+    changes: &[Change],
+) -> Result<Tables, Memory>
+    ensures { IfOk result (λ it. it ≡ rows.applied schema.now tables changes.now) }
+{
+    match changes {
+        [] => Ok(tables),
+        [first, rest @ ..] => match refusal_of(schema, tables.as_slice(), first) {
+            Some(_) => Ok(tables),
+            None => {
+                let next = changed(alloc, schema, tables.as_slice(), first)?;
+                match accepted(alloc, schema, next, rest)? {
+                    Some(all) => Ok(all),
+                    None => Ok(tables),
+                }
+            }
+        },
+    }
+}
+
 fn with_entry(
     alloc: Global,
     schema: &Schema,
@@ -39,7 +82,7 @@ fn with_entry(
     match &entry.payload {
         Payload::NoOp => Ok(tables),
         Payload::Rotate => Ok(tables),
-        Payload::Txn(txn) => applied(alloc, schema, tables.as_slice(), txn.changes.as_slice()),
+        Payload::Txn(txn) => applied(alloc, schema, tables, txn.changes.as_slice()),
     }
 }
 

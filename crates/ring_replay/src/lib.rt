@@ -6,7 +6,10 @@
 #![tactic(auto)]
 
 mod beginnings;
+mod chosen;
 mod engines;
+mod lines;
+mod lists;
 mod messages;
 mod replays;
 mod turns;

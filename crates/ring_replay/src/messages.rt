@@ -1,56 +1,10 @@
-ghost use Rattle.std.specs.Prelude.{◌≡◌, ◌+◌, ◌^◌, ◌<◌, ◌++◌, IfOk, OnOk, drop, length, map};
-ghost use Rattle.ring_types.specs.Rings as rings;
+ghost use Rattle.std.specs.Prelude.{◌≡◌, ◌+◌, ◌^◌, ◌<◌, ◌++◌, IfOk, OnOk, length, map};
 ghost use Rattle.ring_model.specs.Worlds as spec;
-ghost use Rattle.ring_model.specs.Runs as runs;
-ghost use Rattle.ring_replay.specs.Steps as steps;
 
-use ring_model::{Input, Line, Message, Said, Say};
-use ring_types::{Duplicate, List, Memory, NodeId, Ring};
+use crate::lists::items_after;
+use ring_model::{Message, Said, Say};
+use ring_types::{Duplicate, List, Memory, NodeId};
 use std::alloc::Global;
-
-/// Whether the number is a member's.
-fn is_member(ring: &Ring, id: NodeId) -> bool
-    ensures { result ≡ rings.is_member ring.now id }
-{
-    ring.members()
-        .as_slice()
-        .iter()
-        .any(|member| member.id == id)
-}
-
-/// The place of a member in ring order, counted from 0.
-pub(crate) fn place_of(ring: &Ring, id: NodeId) -> Option<usize>
-    ensures { result ≡ steps.place_of ring.now id }
-{
-    ring.members()
-        .as_slice()
-        .iter()
-        .position(|member| member.id == id)
-}
-
-fn is_whole_input(input: &Input) -> bool
-    ensures { result ≡ runs.is_whole_input input.now }
-{
-    match input {
-        Input::Write { changes, .. } => changes.len() > 0,
-        _ => true,
-    }
-}
-
-/// Whether the event's node is in the ring, and its message was sent.
-pub(crate) fn is_known(ring: &Ring, messages: &[Message], line: &Line) -> bool
-    ensures { result ≡ steps.known_among ring.now messages.now line.now }
-{
-    match line {
-        Line::At { node, input } => is_member(ring, *node) && is_whole_input(input),
-        Line::Give(number) => 0 < *number && *number <= messages.len() as u64,
-        Line::Next(node) => is_member(ring, *node),
-        Line::Skip(node) => is_member(ring, *node),
-        Line::Again(node) => is_member(ring, *node),
-        Line::Crash(node) => is_member(ring, *node),
-        Line::Restart(node) => is_member(ring, *node),
-    }
-}
 
 /// A copy of the message of a number counted from 1.
 pub(crate) fn message_at(
@@ -81,21 +35,12 @@ fn first_to(messages: &[Message], node: u32, cursor: u64) -> Option<u64>
     None
 }
 
-fn sent_after(messages: &[Message], cursor: u64) -> &[Message]
-    ensures { result.now ≡ drop cursor messages.now }
-{
-    match messages.get(cursor as usize..) {
-        Some(rest) => rest,
-        None => &[],
-    }
-}
-
 /// The number of the first message to a node above its cursor.
 #[tactic(auto, using(crate::proofs::Sent::next_from_cursor))]
 pub(crate) fn next_to(messages: &[Message], node: u32, cursor: u64) -> Option<u64>
     ensures { result ≡ spec.next_from 1 messages.now node cursor }
 {
-    first_to(sent_after(messages, cursor), node, cursor)
+    first_to(items_after(messages, cursor), node, cursor)
 }
 
 /// What a node says in an event, at the end of what was said.

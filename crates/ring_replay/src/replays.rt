@@ -6,8 +6,11 @@ ghost use Rattle.ring_replay.specs.Replays.{ReplayState, IsHeld, HasTables, Refu
 ghost use Rattle.ring_replay.specs.Turns.{taken_turn, emptied};
 ghost use Rattle.ring_replay.specs.Steps as steps;
 
-use crate::beginnings::{first_cursors, first_nodes, first_tables, grow, nobody, replaced};
-use crate::messages::{add_said, is_known, message_at, next_to, place_of};
+use crate::beginnings::{first_cursors, first_nodes, first_tables, nobody};
+use crate::chosen::grow;
+use crate::lines::{is_known, place_of};
+use crate::lists::replaced;
+use crate::messages::{add_said, message_at, next_to};
 use crate::turns::{Turn, answer, downed, ended, restarted};
 use ring_model::{Event, Input, Line, Message, Shown, Step, World};
 use ring_plain::{Tables, joined};
