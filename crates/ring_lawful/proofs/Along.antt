@@ -1,5 +1,5 @@
 -- A fact of durable parts that holds before and after each of a list of actions, so after any beginning of them.
-use Rattle.std.proofs.Common.{◌≡◌, ℕ, [], ◌∷◌, ◌++◌, List, refl, suc, take, zero}
+use Rattle.std.proofs.Common.{ℕ, [], ◌∷◌, ◌++◌, List, suc, take, zero}
 use Rattle.ring_model.specs.declared.effects.Action.{Action}
 use Rattle.ring_model.specs.declared.nodes.Durable.{Durable}
 use Rattle.ring_model.specs.Actions.{all_done, done}

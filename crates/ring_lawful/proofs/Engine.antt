@@ -1,15 +1,14 @@
 -- The engine: when the prepared pairs are those of a stretch above the applied count, and how the engine's own actions keep them so.
-use Rattle.std.proofs.Common.{◌≡◌, ℕ, ◌+◌, ◌-◌, ◌<◌, ◌≤◌, ◌==◌, ◌⊎◌, [], ◌∷◌, ◌++◌, ◌∙◌, ◌&&◌, if◌then◌else◌, Bool, List, None, Option, Some, ap, arith, drop, false, inl, inr, length, refl, subst, suc, sym, take, true, zero}
+use Rattle.std.proofs.Common.{◌≡◌, ℕ, ◌+◌, ◌<◌, ◌≤◌, ◌==◌, [], ◌∷◌, ◌++◌, ◌∙◌, if◌then◌else◌, Bool, List, Option, Some, ap, arith, drop, false, inl, inr, length, refl, subst, suc, sym, true, zero}
 use Rattle.std.proofs.lemmas.Bool.{cases_lt}
 use Rattle.std.proofs.lemmas.Bool.Decides.{nat_tests}
-use Rattle.std.specs.Prelude.{filter, nat_le, nat_lt, slice_get}
+use Rattle.std.specs.Prelude.{filter, nat_lt, slice_get}
 use Rattle.std.specs.List.{Contains, list_any}
 use Rattle.ring_types.specs.declared.entries.Entry.{Entry}
-use Rattle.ring_types.specs.declared.entries.Opid.{Opid}
 use Rattle.ring_types.specs.declared.entries.Pair.{Pair}
 use Rattle.ring_types.specs.declared.entries.Payload.{Payload}
 use Rattle.ring_types.specs.declared.entries.Payload.TheVariants as payload
-use Rattle.ring_types.specs.Logs.{entry_at, has_opid, is_txn, same_opid}
+use Rattle.ring_types.specs.Logs.{entry_at, has_opid, is_txn}
 use Rattle.ring_model.specs.declared.effects.Action.{Action}
 use Rattle.ring_model.specs.declared.effects.Action.TheVariants as action
 use Rattle.ring_model.specs.declared.nodes.Durable.{Durable}
@@ -19,7 +18,7 @@ use Rattle.ring_model.specs.Steps.{engine_actions, prepare_entry}
 use Rattle.ring_lawful.proofs.Along.{Along, Allowed}
 use Rattle.ring_model.proofs.Lists.{in_cons}
 use Rattle.ring_types.specs.declared.values.Change.{Change}
-use Rattle.ring_lawful.proofs.Pairs.{Placed, at_contains, between_at, filter_on, in_between, next_between, none_between, opid_in, prepared_in, prepared_out}
+use Rattle.ring_lawful.proofs.Pairs.{Placed, at_contains, between_at, filter_on, in_between, next_between, none_between, opid_in, prepared_in, prepared_out, within_some}
 
 -- of the prepared pairs, those whose entry is in the log are those of a stretch above the applied count
 abbrev pub HasPairs : Durable → Type 0
@@ -93,11 +92,6 @@ pub record Follows (log : List Entry) (k c : ℕ) (d : Durable) (actions : List 
   pub applied : (all_done d actions).applied ≡ c
   pub prepared : (all_done d actions).prepared ≡ pairs_in (entries_between log c k)
   pub term : (all_done d actions).term ≡ d.term
-
-within_some : (xs : List Entry) (k : ℕ) → k < length xs → (e : Entry) × (slice_get xs k ≡ Some e)
-within_some [] k lt = absurd (omega arith)
-within_some (x ∷ xs) zero lt = (x, refl)
-within_some (x ∷ xs) (suc k) lt = within_some xs k (omega arith)
 
 committed_pairs : (log : List Entry) (a : ℕ) (d : Durable) (e : Entry) (b : Bool) → d.log ≡ log → slice_get log a ≡ Some e → is_txn e ≡ b → (done d (action.Commit (suc a))).prepared ≡ (if b then drop 1 d.prepared else d.prepared)
 committed_pairs log a d e b l at t =

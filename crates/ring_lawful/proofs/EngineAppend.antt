@@ -1,5 +1,5 @@
 -- A member that takes a leader's Append: what it cuts and adds leaves the prepared pairs those of a stretch above the applied count.
-use Rattle.std.proofs.Common.{◌≡◌, ℕ, ◌+◌, ◌-◌, ◌<◌, ◌≤◌, ◌==◌, ◌⊎◌, [], ◌∷◌, ◌++◌, ◌∙◌, if◌then◌else◌, Bool, List, None, Option, Some, ap, arith, drop, false, inl, inr, length, refl, subst, suc, sym, take, true, zero}
+use Rattle.std.proofs.Common.{◌≡◌, ℕ, ◌+◌, ◌-◌, ◌<◌, ◌≤◌, ◌==◌, [], ◌∷◌, ◌++◌, ◌∙◌, if◌then◌else◌, Bool, List, None, Option, Some, ap, arith, false, length, refl, subst, suc, sym, take, true, zero}
 use Rattle.std.proofs.lemmas.Bool.Decides.{nat_tests}
 use Rattle.std.proofs.lemmas.List.{length-take-le}
 use Rattle.std.specs.Prelude.{filter, nat_le, nat_lt}
@@ -10,21 +10,20 @@ use Rattle.ring_types.specs.Logs.{entry_at, has_opid, term_at}
 use Rattle.ring_model.specs.declared.effects.Action.{Action}
 use Rattle.ring_model.specs.declared.effects.Action.TheVariants as action
 use Rattle.ring_model.specs.declared.effects.Say.{Say}
-use Rattle.ring_model.specs.declared.effects.Step.{Step}
 use Rattle.ring_model.specs.declared.effects.Tear.{Tear}
 use Rattle.ring_model.specs.declared.messages.Append.{Append}
 use Rattle.ring_model.specs.declared.nodes.Durable.{Durable}
 use Rattle.ring_model.specs.declared.nodes.Role.{Role}
 use Rattle.ring_model.specs.declared.nodes.Role.TheVariants.{Candidate, Follower, Leader}
 use Rattle.ring_model.specs.declared.nodes.Soft.{Soft}
-use Rattle.ring_model.specs.Actions.{all_done, done, entries_between, is_prepared, pair_of, pairs_in}
-use Rattle.ring_model.specs.Nodes.{ArePairsAbove, is_leader, kept_pairs}
+use Rattle.ring_model.specs.Actions.{all_done, done, is_prepared, pair_of}
+use Rattle.ring_model.specs.Nodes.{ArePairsAbove, is_leader}
 use Rattle.ring_model.specs.Replication.{accept, follow_append, kept_position, leads_it, match_append, on_append, outgrows, reply, roll_back, take_in, tear_in, unmatched}
 use Rattle.ring_model.specs.Steps.{demoted, engine_actions, follow_actions, greater_of, idle, prepare_entry, smaller_of, stepped, unknowns}
 use Rattle.ring_model.proofs.Paths.{done_join}
 use Rattle.ring_lawful.proofs.Along.{Allowed, Along, allowed_join, along_join}
 use Rattle.ring_lawful.proofs.Pairs.{Placed, cut_pairs, placed_take, rolled_pairs, take_short}
-use Rattle.ring_lawful.proofs.Engine.{Can, Clean, Follows, HasPairs, above, clean_has}
+use Rattle.ring_lawful.proofs.Engine.{Can, Clean, HasPairs, above, clean_has}
 use Rattle.ring_lawful.proofs.EngineSteps.{EngineRuns, EngineStep, append_clean, follow_clean, followed_clean, stands_down}
 use Rattle.ring_lawful.proofs.EngineRules.{AllTail, Both, clean_at, idle_both, quiet_both, tail_join, follow_tail}
 

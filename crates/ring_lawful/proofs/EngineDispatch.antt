@@ -1,9 +1,7 @@
 -- The step of a node on any input keeps its prepared pairs: each input has its rule.
-use Rattle.std.proofs.Common.{◌≡◌, ℕ, ◌==◌, ◌&&◌, ◌||◌, [], ◌∷◌, ◌++◌, if◌then◌else◌, Bool, List, None, Option, Some, ap, arith, false, length, map, not, refl, subst, suc, sym, take, true, zero}
-use Rattle.std.specs.List.{Contains}
+use Rattle.std.proofs.Common.{ℕ, ◌==◌, ◌&&◌, ◌||◌, [], ◌∷◌, ◌++◌, if◌then◌else◌, Bool, List, None, Option, Some, false, map, not, refl, suc, take, true}
 use Rattle.ring_types.specs.declared.entries.Opid.{Opid}
 use Rattle.ring_types.specs.Rings.{Layout, votes}
-use Rattle.ring_model.specs.declared.effects.Action.{Action}
 use Rattle.ring_model.specs.declared.effects.Cause.{Cause}
 use Rattle.ring_model.specs.declared.effects.Step.{Step}
 use Rattle.ring_model.specs.declared.effects.What.TheVariants as what

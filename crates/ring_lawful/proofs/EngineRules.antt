@@ -1,17 +1,14 @@
 -- Each rule of the step on a node with an engine keeps its prepared pairs those of a stretch above the applied count; on a logtailer no rule prepares or applies.
-use Rattle.std.proofs.Common.{◌≡◌, ℕ, ◌+◌, ◌-◌, ◌<◌, ◌≤◌, ◌==◌, ◌⊎◌, [], ◌∷◌, ◌++◌, ◌∙◌, ◌&&◌, ◌||◌, if◌then◌else◌, Bool, List, None, Option, Some, ap, append_assoc, arith, drop, false, inl, inr, length, not, refl, subst, suc, sym, take, true, zero}
-use Rattle.std.proofs.lemmas.Bool.Decides.{nat_tests}
-use Rattle.std.proofs.lemmas.List.{length-take-le}
-use Rattle.std.specs.Prelude.{filter, find, nat_le, nat_lt}
+use Rattle.std.proofs.Common.{◌≡◌, ℕ, ◌≤◌, ◌==◌, ◌⊎◌, [], ◌∷◌, ◌++◌, ◌∙◌, ◌&&◌, if◌then◌else◌, Bool, List, None, Option, Some, ap, arith, false, inl, inr, length, not, refl, subst, suc, sym, true}
+use Rattle.std.specs.Prelude.{find, nat_le, nat_lt}
 use Rattle.ring_types.specs.declared.entries.Entry.{Entry}
 use Rattle.ring_types.specs.declared.entries.Grant.{Grant}
-use Rattle.ring_types.specs.declared.entries.Opid.{Opid}
 use Rattle.ring_types.specs.declared.entries.Pair.{Pair}
 use Rattle.ring_types.specs.declared.entries.Vote.{Vote}
 use Rattle.ring_types.specs.declared.entries.Payload.TheVariants as payload
 use Rattle.ring_types.specs.declared.values.Change.{Change}
 use Rattle.ring_types.specs.Rings.{Layout, runs_engine, votes}
-use Rattle.ring_types.specs.Logs.{at_least, last, term_at}
+use Rattle.ring_types.specs.Logs.{at_least, last}
 use Rattle.ring_model.specs.declared.effects.Action.{Action}
 use Rattle.ring_model.specs.declared.effects.Action.TheVariants as action
 use Rattle.ring_model.specs.declared.effects.Cause.{Cause}
@@ -21,9 +18,7 @@ use Rattle.ring_types.specs.Rows.{change_key, check, table_name}
 use Rattle.std.specs.List.{list_any}
 use Rattle.ring_model.specs.declared.effects.Say.{Say}
 use Rattle.ring_model.specs.declared.effects.Step.{Step}
-use Rattle.ring_model.specs.declared.effects.Tear.{Tear}
 use Rattle.ring_model.specs.declared.effects.What.TheVariants as what
-use Rattle.ring_model.specs.declared.messages.Append.{Append}
 use Rattle.ring_model.specs.declared.messages.AppendReply.{AppendReply}
 use Rattle.ring_model.specs.declared.messages.Message.{Message}
 use Rattle.ring_model.specs.declared.messages.RequestVote.{RequestVote}
@@ -33,19 +28,18 @@ use Rattle.ring_model.specs.declared.nodes.Role.{Role}
 use Rattle.ring_model.specs.declared.nodes.Role.TheVariants.{Candidate, Follower, Leader}
 use Rattle.ring_model.specs.declared.nodes.Soft.{Soft}
 use Rattle.ring_model.specs.Actions.{all_done, done, entries_between, has_room, holder_of, is_held, pairs_in, vote_in, writes_key}
-use Rattle.ring_model.specs.Nodes.{is_leader, is_ready, kept_pairs}
-use Rattle.ring_model.specs.Replication.{accept, counts, follow_append, heard_among, kept_position, leader_hears, leads_it, match_append, on_ack, on_append, outgrows, reply, roll_back, take_in, tear_in, unmatched}
+use Rattle.ring_model.specs.Nodes.{is_leader, is_ready}
+use Rattle.ring_model.specs.Replication.{counts, heard_among, leader_hears, on_ack, reply}
 use Rattle.ring_model.specs.Transfers.{after_ok, on_answer, with_more}
 use Rattle.ring_model.specs.Elections.{answer_by, answer_request, cast_actions, elect, floor_of, grant_vote, granted_now, has_granted, has_won, lead, lead_or_ask, leading, may_elect, new_vote, on_reply, on_request, refused_now, stand, stand_actions, voter_answers}
 use Rattle.ring_model.specs.Writes.{awaits, change_refusal, committed_rows, is_handing, lock_of, lock_refusal, refused, size_refusal, rotate, rotate_refusal, rotate_step, write, write_entry, write_entry_step, write_refusal, write_txn}
-use Rattle.ring_model.specs.Steps.{advance, commit_count, demoted, engine_actions, follow_actions, greater_of, idle, own_entry, prepare_entry, smaller_of, stepped, unknowns}
+use Rattle.ring_model.specs.Steps.{advance, commit_count, demoted, follow_actions, idle, own_entry, stepped, unknowns}
 use Rattle.ring_model.proofs.Lists.{both_true}
-use Rattle.ring_model.proofs.OnAppend.{greater_by}
 use Rattle.ring_model.proofs.Paths.{done_join}
 use Rattle.ring_lawful.proofs.Along.{Allowed, Along, allowed_join, along_join}
-use Rattle.ring_lawful.proofs.Pairs.{Placed, cut_pairs, placed_push, rolled_pairs, take_short}
-use Rattle.ring_lawful.proofs.Engine.{Can, Clean, Follows, HasPairs, above, clean_has}
-use Rattle.ring_lawful.proofs.EngineSteps.{EngineRuns, EngineStep, advance_step, append_clean, follow_clean, followed_clean, push_clean, quiet_step, same_runs, stands_down, written}
+use Rattle.ring_lawful.proofs.Pairs.{Placed, placed_push}
+use Rattle.ring_lawful.proofs.Engine.{Can, Clean, HasPairs, clean_has}
+use Rattle.ring_lawful.proofs.EngineSteps.{EngineRuns, EngineStep, advance_step, append_clean, push_clean, quiet_step, same_runs, stands_down, written}
 
 -- ---- what a logtailer may do
 abbrev pub IsTail : Action → Type 0
@@ -111,9 +105,6 @@ ask_engine : (ring : Layout) (me : ℕ) (d : Durable) (s : Soft) (first : List A
 unfolding lead_or_ask
 ask_engine ring me d s first says grants asks k runs a can x is = go (has_won ring me (all_done d first) grants)
   where
-    e : Durable
-    e = all_done d first
-
     length_push : (xs : List Entry) (y : Entry) → length (xs ++ y ∷ []) ≡ suc (length xs)
     length_push [] y = refl
     length_push (z ∷ xs) y = ap suc (length_push xs y)

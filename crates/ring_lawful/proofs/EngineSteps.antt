@@ -1,37 +1,28 @@
 -- Parts of steps on a node with an engine: what the commit count, a log that goes on and a log that is cut leave of the prepared pairs.
-use Rattle.std.proofs.Common.{◌≡◌, ℕ, ◌+◌, ◌-◌, ◌<◌, ◌≤◌, ◌==◌, ◌⊎◌, [], ◌∷◌, ◌++◌, ◌∙◌, ◌&&◌, if◌then◌else◌, Bool, List, None, Option, Some, ap, append_assoc, arith, drop, false, inl, inr, length, refl, subst, suc, sym, take, true, zero}
-use Rattle.std.proofs.lemmas.Bool.{cases_lt}
+use Rattle.std.proofs.Common.{◌≡◌, ℕ, ◌+◌, ◌-◌, ◌≤◌, ◌⊎◌, [], ◌∷◌, ◌++◌, ◌∙◌, Bool, List, ap, arith, false, inl, inr, length, refl, subst, suc, sym, true, zero}
 use Rattle.std.proofs.lemmas.Bool.Decides.{nat_tests}
-use Rattle.std.proofs.lemmas.List.{append-nil, length-take-le}
+use Rattle.std.proofs.lemmas.List.{append-nil}
 use Rattle.std.proofs.lemmas.List.Elements.{filter-append}
-use Rattle.std.specs.Prelude.{filter, nat_le, nat_lt}
+use Rattle.std.specs.Prelude.{filter, nat_le}
 use Rattle.ring_types.specs.declared.entries.Entry.{Entry}
-use Rattle.ring_types.specs.declared.entries.Grant.{Grant}
 use Rattle.ring_types.specs.declared.entries.Pair.{Pair}
-use Rattle.ring_types.specs.declared.entries.Payload.{Payload}
-use Rattle.ring_types.specs.declared.entries.Payload.TheVariants as payload
-use Rattle.ring_types.specs.declared.values.Txn.{Txn}
 use Rattle.ring_types.specs.Rings.{Layout, runs_engine}
-use Rattle.ring_types.specs.Logs.{entry_at, has_opid}
+use Rattle.ring_types.specs.Logs.{has_opid}
 use Rattle.ring_model.specs.declared.effects.Action.{Action}
 use Rattle.ring_model.specs.declared.effects.Action.TheVariants as action
 use Rattle.ring_model.specs.declared.effects.Say.{Say}
 use Rattle.ring_model.specs.declared.effects.Step.{Step}
 use Rattle.ring_model.specs.declared.messages.Message.{Message}
 use Rattle.ring_model.specs.declared.nodes.Durable.{Durable}
-use Rattle.ring_model.specs.declared.nodes.Role.{Role}
-use Rattle.ring_model.specs.declared.nodes.Role.TheVariants.{Candidate, Follower, Leader}
 use Rattle.ring_model.specs.declared.nodes.Soft.{Soft}
 use Rattle.ring_model.specs.Actions.{all_done, done, entries_between, pairs_in}
 use Rattle.ring_model.specs.Nodes.{is_leader, is_ready, kept_pairs}
-use Rattle.ring_model.specs.Replication.{roll_back, take_in}
-use Rattle.ring_model.specs.Elections.{lead, leading}
-use Rattle.ring_model.specs.Steps.{advance, commit_count, demoted, engine_actions, follow_actions, greatest, idle, may_commit, own_entry, stepped, waiting}
+use Rattle.ring_model.specs.Steps.{advance, commit_count, engine_actions, follow_actions, greatest, may_commit, stepped, waiting}
 use Rattle.ring_model.proofs.Lists.{both_true}
 use Rattle.ring_model.proofs.Paths.{done_join}
 use Rattle.ring_lawful.proofs.Along.{Allowed, Along, allowed_join, along_join}
-use Rattle.ring_lawful.proofs.Pairs.{Placed, between_more, between_push, cut_pairs, none_between, opid_beyond, pairs_join, placed_push, rolled_pairs}
-use Rattle.ring_lawful.proofs.Engine.{Can, Clean, Follows, HasPairs, clean_has, clean_kept, follows, kept_all, above}
+use Rattle.ring_lawful.proofs.Pairs.{Placed, between_more, between_push, none_between, opid_beyond, pairs_join, placed_push}
+use Rattle.ring_lawful.proofs.Engine.{Can, Clean, Follows, HasPairs, clean_has, follows}
 
 -- a running node with an engine: the pairs are clean, the engine follows the commit count, and a ready leader has every transaction of its log prepared
 pub record EngineRuns (d : Durable) (s : Soft) : Type 0 where

@@ -1,26 +1,20 @@
 -- In every world of every run each running node is lawful.
-use Rattle.std.proofs.Common.{◌≡◌, ℕ, ◌+◌, ◌<◌, ◌≤◌, ◌⊎◌, [], ◌∷◌, ◌∙◌, Bool, List, Some, ap, arith, false, inl, inr, length, refl, subst, suc, sym, take, true, zero}
+use Rattle.std.proofs.Common.{◌≡◌, ℕ, ◌+◌, ◌<◌, ◌≤◌, ◌⊎◌, ◌∙◌, List, ap, arith, false, inl, inr, length, refl, sym, true}
 use Rattle.std.proofs.lemmas.Bool.Decides.{nat_tests}
 use Rattle.std.proofs.lemmas.List.Elements.{Contains-get_or}
 use Rattle.std.specs.Prelude.{nat_le, slice_index_or}
-use Rattle.std.specs.List.{All, Contains, list_all}
-use Rattle.ring_types.specs.declared.entries.Entry.{Entry}
+use Rattle.std.specs.List.{All, Contains}
 use Rattle.ring_types.specs.Rings.{Layout}
 use Rattle.ring_model.specs.declared.messages.Message.{Message}
 use Rattle.ring_model.specs.declared.nodes.Durable.{Durable}
 use Rattle.ring_model.specs.declared.nodes.Peer.{Peer}
-use Rattle.ring_model.specs.declared.nodes.Pending.{Pending}
-use Rattle.ring_model.specs.declared.nodes.Role.TheVariants.{Candidate, Follower, Leader}
 use Rattle.ring_model.specs.declared.nodes.Soft.{Soft}
-use Rattle.ring_model.specs.Actions.{all_done}
-use Rattle.ring_model.specs.Dispatch.{step}
-use Rattle.ring_model.specs.Nodes.{IsLawful, IsPendingIn, PeerFits, fresh_soft, is_leader, is_ready, recover}
+use Rattle.ring_model.specs.Nodes.{IsPendingIn, PeerFits, fresh_soft, is_leader, is_ready}
 use Rattle.ring_model.specs.Runs.{IsRun, Move, world}
-use Rattle.ring_model.proofs.Invariant.{History, IsHistory, IsNode, IsRunning}
 use Rattle.ring_model.proofs.Lists.{all_of}
 use Rattle.ring_lawful.specs.Lawful.{EveryRunningNodeIsLawful, KeepsCounts, RunsEngine}
-use Rattle.ring_lawful.proofs.Carry.{Holds, IsKeptByAll, StepKeeps, holds_always}
-use Rattle.ring_lawful.proofs.Leads.{LeaderFits, SoftFits, increasing, stands}
+use Rattle.ring_lawful.proofs.Carry.{Holds, IsKeptByAll, holds_always}
+use Rattle.ring_lawful.proofs.Leads.{SoftFits, increasing, stands}
 use Rattle.ring_lawful.proofs.LeadsRules.{step_soft}
 use Rattle.ring_lawful.proofs.Order.{every_node_keeps_order, running_counts}
 use Rattle.ring_lawful.proofs.Prepared.{every_node_keeps_pairs}

@@ -1,42 +1,35 @@
 -- What a running node keeps in its soft part: only a leader has peers, waiting writes and a transfer, and these fit its log.
-use Rattle.std.proofs.Common.{◌≡◌, ℕ, ◌+◌, ◌-◌, ◌<◌, ◌≤◌, ◌==◌, ◌&&◌, ◌||◌, ◌⊎◌, [], ◌∷◌, ◌++◌, ◌∙◌, if◌then◌else◌, Bool, List, None, Option, Some, ap, arith, false, inl, inr, length, map, not, refl, subst, suc, sym, take, true, zero}
+use Rattle.std.proofs.Common.{◌≡◌, ℕ, ◌+◌, ◌<◌, ◌≤◌, ◌==◌, ◌⊎◌, [], ◌∷◌, ◌++◌, ◌∙◌, if◌then◌else◌, Bool, List, ap, arith, false, inl, inr, length, map, not, refl, subst, suc, sym, true, zero}
 use Rattle.std.proofs.lemmas.Bool.Decides.{nat_tests}
-use Rattle.std.proofs.lemmas.List.Elements.{Contains-push_cases}
-use Rattle.std.proofs.lemmas.Option.{slice_get_within}
-use Rattle.std.specs.Prelude.{filter, nat_le, nat_lt, slice_get, slice_index}
+use Rattle.std.specs.Prelude.{filter, nat_le, nat_lt}
 use Rattle.std.specs.List.{Contains, list_all}
 use Rattle.std.specs.List.Sorted.{IsStrictlyIncreasing}
 use Rattle.ring_types.specs.declared.entries.Entry.{Entry}
 use Rattle.ring_types.specs.declared.entries.Grant.{Grant}
 use Rattle.ring_types.specs.declared.entries.Payload.TheVariants as payload
 use Rattle.ring_types.specs.declared.members.Member.{Member}
-use Rattle.ring_types.specs.Rings.{Layout, is_member, runs_engine, votes}
-use Rattle.ring_types.specs.Logs.{entry_at}
+use Rattle.ring_types.specs.Rings.{Layout, votes}
 use Rattle.ring_model.specs.declared.effects.Action.{Action}
 use Rattle.ring_model.specs.declared.effects.Action.TheVariants as action
 use Rattle.ring_model.specs.declared.effects.Say.{Say}
 use Rattle.ring_model.specs.declared.effects.Step.{Step}
 use Rattle.ring_model.specs.declared.messages.Message.{Message}
 use Rattle.ring_model.specs.declared.nodes.Durable.{Durable}
-use Rattle.ring_model.specs.declared.nodes.Mock.{Mock}
-use Rattle.ring_model.specs.declared.nodes.Mock.TheVariants as mock
 use Rattle.ring_model.specs.declared.nodes.Peer.{Peer}
 use Rattle.ring_model.specs.declared.nodes.Pending.{Pending}
-use Rattle.ring_model.specs.declared.nodes.Role.{Role}
-use Rattle.ring_model.specs.declared.nodes.Role.TheVariants.{Candidate, Follower, Leader}
+use Rattle.ring_model.specs.declared.nodes.Role.TheVariants.{Candidate, Follower}
 use Rattle.ring_model.specs.declared.nodes.Soft.{Soft}
-use Rattle.ring_model.specs.declared.nodes.Transfer.{Transfer}
 use Rattle.ring_model.specs.declared.nodes.Transfer.TheVariants as transfer
-use Rattle.ring_model.specs.Actions.{all_done, done}
-use Rattle.ring_model.specs.Nodes.{IsPendingIn, MockFits, TransferFits, is_leader, is_ready, others}
+use Rattle.ring_model.specs.Actions.{all_done}
+use Rattle.ring_model.specs.Nodes.{IsPendingIn, MockFits, TransferFits, is_leader, others}
 use Rattle.ring_model.specs.Replication.{heard_among, heard_from, quieter}
 use Rattle.ring_model.specs.Elections.{first_peers, has_won, lead, lead_or_ask, leading}
-use Rattle.ring_model.specs.Steps.{advance, commit_count, demoted, follow_actions, idle, is_settled, may_commit, own_entry, smaller_of, stepped, waiting}
-use Rattle.ring_model.proofs.Lists.{both_true, cons_cases, filter_of, filter_true, none_contained}
+use Rattle.ring_model.specs.Steps.{advance, commit_count, demoted, follow_actions, is_settled, may_commit, own_entry, smaller_of, stepped, waiting}
+use Rattle.ring_model.proofs.Lists.{both_true, filter_of, filter_true, none_contained}
 use Rattle.ring_model.proofs.Paths.{done_join}
 use Rattle.ring_lawful.proofs.EngineAppend.{follow_log}
 use Rattle.ring_lawful.proofs.EngineSteps.{greatest_bounds}
-use Rattle.ring_lawful.proofs.Sized.{all_filter, all_join, all_weaker}
+use Rattle.ring_lawful.proofs.Sized.{all_filter, all_join}
 
 -- each waiting write stands below all later ones
 abbrev pub Rises : List Pending → Type 0
@@ -204,14 +197,10 @@ pub ask_soft : (ring : Layout) (me : ℕ) (d : Durable) (s : Soft) (first : List
 unfolding lead_or_ask
 ask_soft ring me d s first says grants asks may none off m inside = go (has_won ring me (all_done d first) grants)
   where
-    own : Entry
-    own = own_entry ring me (all_done d first) payload.NoOp
-
     go : (b : Bool) → SoftStep ring me d (if b then lead ring me d s first says grants else stepped first asks says (record s { role = Candidate; grants = grants }))
     go true =
         let e : Durable = all_done d first in
         let x : Entry = own_entry ring me (all_done d first) payload.NoOp in
-        let acts : List Action = first ++ (action.Append (x ∷ []) ∷ []) in
         let l : (all_done d (first ++ (action.Append (x ∷ []) ∷ []))).log ≡ e.log ++ x ∷ [] = ap (λ (w : Durable). w.log) (done_join d first (action.Append (x ∷ []) ∷ [])) in
         let n : length (all_done d (first ++ (action.Append (x ∷ []) ∷ []))).log ≡ suc (length e.log) = ap length l ∙ length_push e.log x in
         advance_soft ring me d (leading ring me (suc (length (all_done d first).log)) s grants) (first ++ (action.Append (own_entry ring me (all_done d first) payload.NoOp ∷ []) ∷ [])) says

@@ -1,10 +1,8 @@
 -- Each rule keeps what a running node keeps in its soft part.
-use Rattle.std.proofs.Common.{◌≡◌, ℕ, ◌+◌, ◌-◌, ◌^◌, ◌<◌, ◌≤◌, ◌==◌, ◌&&◌, ◌||◌, ◌⊎◌, [], ◌∷◌, ◌++◌, ◌∙◌, if◌then◌else◌, Bool, List, None, Option, Some, ap, arith, false, inl, inr, length, map, not, refl, subst, suc, sym, take, true, zero}
-use Rattle.std.proofs.lemmas.Bool.Decides.{nat_tests}
+use Rattle.std.proofs.Common.{◌≡◌, ℕ, ◌-◌, ◌^◌, ◌≤◌, ◌==◌, ◌&&◌, ◌||◌, [], ◌∷◌, ◌++◌, ◌∙◌, if◌then◌else◌, Bool, List, None, Option, Some, ap, arith, false, inl, inr, length, map, not, refl, subst, suc, sym, true, zero}
 use Rattle.std.proofs.lemmas.List.Elements.{Contains-push_cases}
 use Rattle.std.proofs.lemmas.Option.{slice_get_within}
 use Rattle.std.specs.Prelude.{nat_le, nat_lt, slice_get}
-use Rattle.std.specs.List.{Contains}
 use Rattle.ring_types.specs.declared.entries.Entry.{Entry}
 use Rattle.ring_types.specs.declared.entries.Opid.{Opid}
 use Rattle.ring_types.specs.declared.entries.Payload.TheVariants as payload
@@ -17,7 +15,6 @@ use Rattle.ring_model.specs.declared.effects.Action.TheVariants as action
 use Rattle.ring_model.specs.declared.effects.Cause.{Cause}
 use Rattle.ring_model.specs.declared.effects.Cause.TheVariants as cause
 use Rattle.ring_model.specs.declared.effects.Say.{Say}
-use Rattle.ring_model.specs.declared.effects.Step.{Step}
 use Rattle.ring_model.specs.declared.effects.Tear.{Tear}
 use Rattle.ring_model.specs.declared.effects.What.TheVariants as what
 use Rattle.ring_model.specs.declared.messages.Append.{Append}
@@ -26,7 +23,6 @@ use Rattle.ring_model.specs.declared.messages.Body.{Body}
 use Rattle.ring_model.specs.declared.messages.Body.TheVariants as body
 use Rattle.ring_model.specs.declared.messages.Input.{Input}
 use Rattle.ring_model.specs.declared.messages.Input.TheVariants as input
-use Rattle.ring_model.specs.declared.messages.Message.{Message}
 use Rattle.ring_model.specs.declared.messages.MockReply.{MockReply}
 use Rattle.ring_model.specs.declared.messages.MockRequest.{MockRequest}
 use Rattle.ring_model.specs.declared.messages.MockResult.{MockResult}
@@ -44,9 +40,9 @@ use Rattle.ring_model.specs.declared.nodes.Role.TheVariants.{Candidate, Follower
 use Rattle.ring_model.specs.declared.nodes.Soft.{Soft}
 use Rattle.ring_model.specs.declared.nodes.Transfer.{Transfer}
 use Rattle.ring_model.specs.declared.nodes.Transfer.TheVariants as transfer
-use Rattle.ring_model.specs.Actions.{all_done, done, has_room, vote_in}
-use Rattle.ring_model.specs.Dispatch.{body_step, deliver, is_foreign, is_foreign_body, is_other, step}
-use Rattle.ring_model.specs.Nodes.{IsPendingIn, MockFits, TransferFits, is_follower, is_leader, is_ready, others}
+use Rattle.ring_model.specs.Actions.{all_done, has_room, vote_in}
+use Rattle.ring_model.specs.Dispatch.{body_step, is_foreign, is_foreign_body, is_other, step}
+use Rattle.ring_model.specs.Nodes.{IsPendingIn, MockFits, TransferFits, is_follower, is_leader, is_ready}
 use Rattle.ring_model.specs.Quorums.{is_listed}
 use Rattle.ring_model.specs.Replication.{accept, beat, beat_to, counts, follow_append, heard_among, leader_hears, leads_it, match_append, on_ack, on_append, outgrows, quieter, relay, reply, tear_in}
 use Rattle.ring_model.specs.Elections.{answer_by, answer_request, cast_actions, elect, floor_of, granted_now, has_granted, lead_or_ask, may_elect, new_vote, on_reply, on_request, refused_now, stand, stand_actions, voter_answers}
@@ -55,10 +51,9 @@ use Rattle.ring_model.specs.Transfers.{after_ok, ask_transfer, begin_mock, begin
 use Rattle.ring_model.specs.Writes.{awaits, refused, rotate, rotate_refusal, rotate_step, write, write_entry, write_entry_step, write_refusal, write_txn}
 use Rattle.ring_model.proofs.Leading.{get_end}
 use Rattle.ring_model.proofs.Lists.{both_true}
-use Rattle.ring_model.proofs.OnAnswer.{counted}
 use Rattle.ring_model.proofs.Paths.{done_join}
 use Rattle.ring_lawful.proofs.EngineRules.{rotate_is_ready, write_is_ready}
-use Rattle.ring_lawful.proofs.Leads.{LeaderFits, Rises, SoftFits, SoftStep, advance_soft, ask_soft, demoted_fits, follows_on, heard_nodes, heard_silent, quieter_nodes, quieter_silent, rises_push, stands}
+use Rattle.ring_lawful.proofs.Leads.{LeaderFits, SoftFits, SoftStep, advance_soft, ask_soft, demoted_fits, heard_nodes, heard_silent, quieter_nodes, quieter_silent, rises_push, stands}
 
 -- ---- elections
 elector_votes : (ring : Layout) (me : ℕ) (d : Durable) (s : Soft) → may_elect ring me d s ≡ true → votes ring me ≡ true

@@ -1,16 +1,13 @@
 -- The order of logs and counts, as the model's invariant has it.
-use Rattle.std.proofs.Common.{◌≡◌, ℕ, ◌<◌, ◌≤◌, List, Some, arith, length, subst, suc, zero}
+use Rattle.std.proofs.Common.{◌≡◌, ℕ, List, Some, arith, subst, suc, zero}
 use Rattle.std.proofs.lemmas.Option.{slice_get_within}
-use Rattle.std.specs.List.{Contains}
 use Rattle.ring_types.specs.declared.entries.Entry.{Entry}
 use Rattle.ring_types.specs.Rings.{Layout}
 use Rattle.ring_types.specs.Logs.{entry_at}
 use Rattle.ring_model.specs.declared.nodes.Durable.{Durable}
-use Rattle.ring_model.specs.declared.nodes.Peer.{Peer}
 use Rattle.ring_model.specs.declared.nodes.Role.{Role}
-use Rattle.ring_model.specs.declared.nodes.Role.TheVariants.{Leader}
 use Rattle.ring_model.specs.declared.nodes.Soft.{Soft}
-use Rattle.ring_model.specs.Runs.{Move, world}
+use Rattle.ring_model.specs.Runs.{world}
 use Rattle.ring_model.proofs.Invariant.{HasRole, History, IsBookedLog, IsLeader, IsNode, IsRunning}
 use Rattle.ring_model.proofs.Turns.{seal_within}
 use Rattle.ring_model.proofs.Runs.{reached}

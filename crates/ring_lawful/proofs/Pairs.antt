@@ -1,18 +1,18 @@
 -- The pairs of a stretch of a log: what a filter by opid keeps of them, and the stretch as the log is cut, goes on, or is applied.
-use Rattle.std.proofs.Common.{◌≡◌, ℕ, ◌+◌, ◌-◌, ◌<◌, ◌≤◌, ◌==◌, ◌⊎◌, [], ◌∷◌, ◌++◌, ◌∙◌, ◌&&◌, Bool, List, None, Option, Some, ap, arith, drop, false, inl, inr, length, refl, subst, suc, sym, take, true, zero}
+use Rattle.std.proofs.Common.{◌≡◌, ℕ, ◌+◌, ◌-◌, ◌<◌, ◌≤◌, ◌⊎◌, [], ◌∷◌, ◌++◌, ◌∙◌, Bool, List, None, Some, ap, arith, drop, false, inl, inr, length, refl, subst, suc, sym, take, true, zero}
 use Rattle.std.proofs.lemmas.Bool.{cases_lt}
 use Rattle.std.proofs.lemmas.Bool.Decides.{nat_tests}
-use Rattle.std.proofs.lemmas.List.{append-nil, drop-append-le, length-take-le, take-append-le, take_all}
+use Rattle.std.proofs.lemmas.List.{append-nil, drop-append-le, take-append-le, take_all}
 use Rattle.std.proofs.lemmas.List.Elements.{filter-append, filter_map-append}
-use Rattle.std.specs.Prelude.{filter, filter_map, nat_le, nat_lt, slice_get}
-use Rattle.std.specs.List.{Contains, list_any}
+use Rattle.std.specs.Prelude.{filter, nat_le, slice_get}
+use Rattle.std.specs.List.{Contains}
 use Rattle.ring_types.specs.declared.entries.Entry.{Entry}
 use Rattle.ring_types.specs.declared.entries.Opid.{Opid}
 use Rattle.ring_types.specs.declared.entries.Pair.{Pair}
 use Rattle.ring_types.specs.declared.entries.Payload.{Payload}
 use Rattle.ring_types.specs.declared.entries.Payload.TheVariants as payload
-use Rattle.ring_types.specs.Logs.{entry_at, has_opid, is_txn, same_opid}
-use Rattle.ring_model.specs.Actions.{entries_between, is_prepared, is_txn_at, pair_of, pairs_in}
+use Rattle.ring_types.specs.Logs.{entry_at, has_opid, same_opid}
+use Rattle.ring_model.specs.Actions.{entries_between, is_prepared, pair_of, pairs_in}
 use Rattle.ring_model.proofs.Lists.{any_true, cons_cases, in_cons, none_contained, place_cases}
 
 abbrev pub Placed : List Entry → Type 0
@@ -263,3 +263,8 @@ pub rolled_pairs : (log : List Entry) (a m k : ℕ) → a ≤ m → Placed log
 rolled_pairs log a m k low placed =
     let x = filter_up_to log (λ o. nat_le o.position m) a m k low placed (λ e at le. grind (arith, nat_tests, le)) (λ e more. grind (arith, nat_tests, more)) in
     (x.0, x.1, x.2, x.3 ∙ ap pairs_in (sym (between_take log m a x.0 x.1)))
+
+pub within_some : (xs : List Entry) (k : ℕ) → k < length xs → (e : Entry) × (slice_get xs k ≡ Some e)
+within_some [] k lt = absurd (omega arith)
+within_some (x ∷ xs) zero lt = (x, refl)
+within_some (x ∷ xs) (suc k) lt = within_some xs k (omega arith)

@@ -1,5 +1,5 @@
 -- A write that is not refused fits the schema: its changes were checked, and its GTID has a next number.
-use Rattle.std.proofs.Common.{◌≡◌, ℕ, ◌+◌, ◌-◌, ◌^◌, ◌<◌, ◌≤◌, ◌==◌, ◌&&◌, ◌||◌, [], ◌∷◌, ◌∙◌, if◌then◌else◌, Bool, List, None, Option, Some, ap, arith, false, length, not, refl, subst, suc, sym, true, zero}
+use Rattle.std.proofs.Common.{◌≡◌, ℕ, ◌+◌, ◌-◌, ◌^◌, [], ◌∷◌, ◌∙◌, if◌then◌else◌, Bool, List, None, Option, Some, ap, arith, false, length, refl, true}
 use Rattle.std.proofs.lemmas.Bool.Decides.{nat_tests}
 use Rattle.std.proofs.lemmas.List.Folds.{find_at}
 use Rattle.std.specs.Prelude.{bytes_eq, is_none, nat_le, nat_lt, slice_get, unwrap_or}
@@ -9,8 +9,8 @@ use Rattle.ring_types.specs.declared.schemas.Schema.{Schema}
 use Rattle.ring_types.specs.declared.schemas.Table.{Table}
 use Rattle.ring_types.specs.declared.values.Change.{Change}
 use Rattle.ring_types.specs.declared.values.RowRefusal.{RowRefusal}
-use Rattle.ring_types.specs.declared.values.RowRefusal.TheVariants.{BadRow, NoTable}
-use Rattle.ring_types.specs.Rows.{Tables, change_fits, changed, check, fits_table, is_number, key_refusal, refusal_in, refusal_of, rows_at, table_name}
+use Rattle.ring_types.specs.declared.values.RowRefusal.TheVariants.{BadRow}
+use Rattle.ring_types.specs.Rows.{Tables, change_fits, changed, check, fits_table, is_number, key_refusal, refusal_of, rows_at, table_name}
 
 change_is_fit : (schema : Schema) (tables : Tables) (c : Change) → refusal_of schema tables c ≡ None → change_fits schema c ≡ true
 unfolding refusal_of

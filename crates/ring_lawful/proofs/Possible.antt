@@ -1,10 +1,9 @@
 -- In every world of every run the actions that a running node plans are possible, each where its turn comes.
-use Rattle.std.proofs.Common.{◌≡◌, ℕ, ◌^◌, ◌<◌, ◌≤◌, ◌&&◌, [], ◌∷◌, ◌∙◌, Bool, List, Some, ap, arith, false, length, refl, subst, suc, sym, take, true, zero}
+use Rattle.std.proofs.Common.{◌≡◌, ℕ, ◌^◌, ◌≤◌, ◌&&◌, [], ◌∷◌, Bool, List, Some, arith, false, length, refl, subst, suc, sym, take, true}
 use Rattle.std.specs.Prelude.{nat_le, nat_lt}
-use Rattle.std.specs.List.{Contains, list_all}
 use Rattle.ring_types.specs.declared.entries.Entry.{Entry}
 use Rattle.ring_types.specs.declared.entries.Opid.{Opid}
-use Rattle.ring_types.specs.Logs.{IsLog, rotates}
+use Rattle.ring_types.specs.Logs.{IsLog}
 use Rattle.ring_types.specs.Rings.{Layout, runs_engine}
 use Rattle.ring_types.specs.Rows.{payload_fits, payloads_fit}
 use Rattle.ring_types.specs.Sizes.{group_bytes, group_limit}
@@ -18,25 +17,21 @@ use Rattle.ring_model.specs.declared.nodes.Soft.{Soft}
 use Rattle.ring_model.specs.Actions.{ArePossible, IsPossible, all_done, done}
 use Rattle.ring_model.specs.Dispatch.{step}
 use Rattle.ring_model.specs.Nodes.{stray_opids}
-use Rattle.ring_model.specs.Runs.{IsRun, Move, is_whole_input, world}
+use Rattle.ring_model.specs.Runs.{is_whole_input, world}
 use Rattle.ring_model.specs.Worlds.{restart_actions}
 use Rattle.ring_model.proofs.Dispatch.{IsGiven, step_row}
-use Rattle.ring_model.proofs.Invariant.{History, IsHistory, IsNode, IsRunning}
 use Rattle.ring_model.proofs.Lists.{both_true}
 use Rattle.ring_model.proofs.Paths.{path_cut, path_keeps}
 use Rattle.ring_model.proofs.Runs.{reached}
-use Rattle.ring_model.proofs.Turns.{IsRow}
 use Rattle.ring_lawful.specs.Lawful.{EveryPlanIsPossible, KeepsOrder, WasSent}
 use Rattle.ring_lawful.proofs.Along.{Allowed, Along, allowed_along, along_cut}
 use Rattle.ring_lawful.proofs.Engine.{Can}
 use Rattle.ring_lawful.proofs.EngineDispatch.{row_fits, step_both}
 use Rattle.ring_lawful.proofs.EngineRules.{AllTail, Both, IsTail}
-use Rattle.ring_lawful.proofs.EngineSteps.{EngineRuns}
 use Rattle.ring_lawful.proofs.Order.{node_order}
 use Rattle.ring_lawful.proofs.Pairs.{take_short}
 use Rattle.ring_lawful.proofs.Prepared.{held}
 use Rattle.ring_lawful.proofs.Sized.{May, Sized, all_weaker, entry_fits, rotates_is, sized_one}
-use Rattle.ring_lawful.proofs.SizedRules.{Keeps}
 use Rattle.ring_lawful.proofs.Sound.{short_log, sized_always, step_keeps}
 
 -- what holds before and after each action

@@ -1,8 +1,8 @@
 -- In every world of every run the prepared pairs are those of a stretch above the applied count, and a logtailer has none.
-use Rattle.std.proofs.Common.{◌≡◌, ℕ, ◌≤◌, ◌==◌, ◌&&◌, [], ◌∷◌, ◌++◌, ◌∙◌, if◌then◌else◌, Bool, List, None, Option, Some, ap, arith, false, length, not, refl, subst, suc, sym, take, true, zero}
+use Rattle.std.proofs.Common.{◌≡◌, ℕ, [], ◌∷◌, ◌∙◌, Bool, List, Some, ap, arith, false, not, refl, suc, sym, take, true, zero}
 use Rattle.std.proofs.lemmas.Bool.Decides.{nat_tests}
 use Rattle.std.specs.Prelude.{filter, map}
-use Rattle.std.specs.List.{Contains, list_any}
+use Rattle.std.specs.List.{list_any}
 use Rattle.ring_types.specs.declared.entries.Entry.{Entry}
 use Rattle.ring_types.specs.declared.entries.Opid.{Opid}
 use Rattle.ring_types.specs.declared.entries.Pair.{Pair}
@@ -10,27 +10,23 @@ use Rattle.ring_types.specs.Rings.{Layout, runs_engine}
 use Rattle.ring_types.specs.Logs.{has_opid, same_opid}
 use Rattle.ring_model.specs.declared.effects.Action.{Action}
 use Rattle.ring_model.specs.declared.effects.Action.TheVariants as action
-use Rattle.ring_model.specs.declared.messages.Input.{Input}
 use Rattle.ring_model.specs.declared.messages.Message.{Message}
 use Rattle.ring_model.specs.declared.nodes.Durable.{Durable}
 use Rattle.ring_model.specs.declared.nodes.Soft.{Soft}
-use Rattle.ring_model.specs.Actions.{all_done, done, entries_between, pairs_in}
+use Rattle.ring_model.specs.Actions.{all_done, done, pairs_in}
 use Rattle.ring_model.specs.Dispatch.{step}
-use Rattle.ring_model.specs.Nodes.{ArePairsAbove, empty_durable, fresh_soft, is_ready, kept_pairs, recover, stray_opids}
+use Rattle.ring_model.specs.Nodes.{fresh_soft, kept_pairs, recover, stray_opids}
 use Rattle.ring_model.specs.Runs.{IsRun, Move, world}
-use Rattle.ring_model.specs.Safety.{PreparedAgrees}
-use Rattle.ring_model.specs.Worlds.{restart_actions}
-use Rattle.ring_model.proofs.Dispatch.{IsGiven, step_row}
-use Rattle.ring_model.proofs.Invariant.{History, IsHistory, IsNode, IsRunning}
+use Rattle.ring_model.proofs.Dispatch.{step_row}
+use Rattle.ring_model.proofs.Invariant.{History, IsNode}
 use Rattle.ring_model.proofs.Turns.{seal_within}
-use Rattle.ring_lawful.specs.Lawful.{EveryRunPreparesInOrder, KeepsPairs, RunsEngine, EveryNodeKeepsPairs}
+use Rattle.ring_lawful.specs.Lawful.{EveryRunPreparesInOrder, EveryNodeKeepsPairs}
 use Rattle.ring_lawful.proofs.Along.{Along, along_cut, along_end}
-use Rattle.ring_lawful.proofs.Carry.{Holds, IsKeptByAll, StepKeeps, holds_always}
+use Rattle.ring_lawful.proofs.Carry.{Holds, IsKeptByAll, holds_always}
 use Rattle.ring_lawful.proofs.Engine.{Clean, HasPairs, clean_above, clean_has, clean_kept}
-use Rattle.ring_lawful.proofs.EngineAppend.{Fits}
 use Rattle.ring_lawful.proofs.EngineDispatch.{row_fits, step_both}
-use Rattle.ring_lawful.proofs.EngineRules.{AllTail, Both, IsTail}
-use Rattle.ring_lawful.proofs.EngineSteps.{EngineRuns, EngineStep, stands_down}
+use Rattle.ring_lawful.proofs.EngineRules.{AllTail, IsTail}
+use Rattle.ring_lawful.proofs.EngineSteps.{EngineRuns, stands_down}
 use Rattle.ring_lawful.proofs.Order.{placed_in}
 use Rattle.ring_lawful.proofs.Pairs.{none_between}
 
@@ -103,9 +99,6 @@ partly_one ring id d (suc n) [] is x = x
 partly_one ring id d zero (o ∷ opids) is x = x
 partly_one ring id d (suc n) (o ∷ opids) is x = go n
   where
-    e : Durable
-    e = done d (action.DropPairs (o ∷ opids))
-
     y : Engine ring id (done d (action.DropPairs (o ∷ opids)))
     y = record {
       engine = λ runs. (let z = x.engine runs in (z.0, z.1, z.2, dropped_pairs d (o ∷ opids) is ∙ z.3));

@@ -1,9 +1,8 @@
 -- Sizes and votes: terms, positions and groups stay within their limits, and kept votes rise; what allows each action keeps them so.
 use Rattle.std.proofs.Common.{◌≡◌, ℕ, ◌+◌, ◌-◌, ◌^◌, ◌<◌, ◌≤◌, ◌==◌, ◌&&◌, [], ◌∷◌, ◌++◌, ◌∙◌, if◌then◌else◌, Bool, List, None, Option, Some, ap, arith, drop, false, length, refl, subst, suc, sym, take, true, zero}
 use Rattle.std.proofs.lemmas.Bool.Decides.{nat_tests}
-use Rattle.std.proofs.lemmas.List.Folds.{list_all-append}
 use Rattle.std.proofs.lemmas.List.Recursion.{is_count_by}
-use Rattle.std.specs.Prelude.{filter, map, nat_le, nat_lt, slice_index}
+use Rattle.std.specs.Prelude.{filter, map, nat_le, nat_lt}
 use Rattle.std.specs.List.{Contains, list_all}
 use Rattle.std.specs.List.Sorted.{IsStrictlyIncreasing}
 use Rattle.ring_types.specs.declared.entries.Entry.{Entry}
@@ -18,7 +17,7 @@ use Rattle.ring_model.specs.declared.messages.Body.{Body}
 use Rattle.ring_model.specs.declared.messages.Body.TheVariants as body
 use Rattle.ring_model.specs.declared.messages.Message.{Message}
 use Rattle.ring_model.specs.declared.nodes.Durable.{Durable}
-use Rattle.ring_model.specs.Actions.{all_done, done, has_room, is_prepared, pair_of, vote_in, vote_limit, votes_above}
+use Rattle.ring_model.specs.Actions.{all_done, done, has_room, is_prepared, pair_of, vote_in, votes_above}
 use Rattle.ring_model.specs.Steps.{engine_actions, follow_actions, prepare_entry}
 use Rattle.ring_model.proofs.Lists.{all_of, both_true}
 use Rattle.ring_lawful.proofs.Along.{Allowed, allowed_join}
@@ -152,7 +151,7 @@ increasing (v ∷ w ∷ votes) r zero lt = let z = both_true (nat_lt v.term w.te
 increasing (v ∷ w ∷ votes) r (suc k) lt = let z : suc k + 1 ≡ suc (k + 1) = omega arith in let y = increasing (w ∷ votes) r.1 k (omega (arith, lt)) in rw z y
 
 -- ---- each action
-sized_at : (ring : Layout) (d e : Durable) → e.term ≡ d.term → e.votes ≡ d.votes → e.log ≡ d.log → Sized ring d → Sized ring e
+pub sized_at : (ring : Layout) (d e : Durable) → e.term ≡ d.term → e.votes ≡ d.votes → e.log ≡ d.log → Sized ring d → Sized ring e
 sized_at ring d e t v l x = record {
   term = subst (λ (n : ℕ). n < 2 ^ 62) (sym t) x.term;
   entries = ap (list_all (entry_fits ring)) l ∙ x.entries;
@@ -204,9 +203,6 @@ sized_one ring d (action.Prepare p) m x = sized_at ring d (done d (action.Prepar
 sized_one ring d (action.Commit p) m x = sized_at ring d (done d (action.Commit p)) refl refl refl x
 sized_one ring d (action.RollBackAfter p) m x = sized_at ring d (done d (action.RollBackAfter p)) refl refl refl x
 sized_one ring d (action.DropPairs opids) m x = sized_at ring d (done d (action.DropPairs opids)) refl refl refl x
-
-pub sized_same : (ring : Layout) (d e : Durable) → e.term ≡ d.term → e.votes ≡ d.votes → e.log ≡ d.log → Sized ring d → Sized ring e
-sized_same ring d e t v l x = sized_at ring d e t v l x
 
 -- ---- the engine's actions are allowed where the log's entries fit
 pair_fits : (ring : Layout) (e : Entry) (p : Pair) → entry_fits ring e ≡ true → pair_of e ≡ Some p → (payload_fits ring.schema (payload.Txn p.txn) ≡ true) × (group_bytes ring.schema (payload.Txn p.txn) ≤ group_limit)

@@ -1,12 +1,11 @@
 -- Each rule's actions are allowed, and its messages fit: terms, positions and groups stay within their limits and kept votes rise.
-use Rattle.std.proofs.Common.{◌≡◌, ℕ, ◌+◌, ◌-◌, ◌^◌, ◌<◌, ◌≤◌, ◌==◌, ◌&&◌, ◌||◌, [], ◌∷◌, ◌++◌, ◌∙◌, if◌then◌else◌, Bool, List, None, Option, Some, ap, arith, drop, false, length, map, not, refl, subst, suc, sym, take, true, zero}
+use Rattle.std.proofs.Common.{◌≡◌, ℕ, ◌+◌, ◌-◌, ◌^◌, ◌<◌, ◌≤◌, ◌==◌, ◌&&◌, ◌||◌, [], ◌∷◌, ◌++◌, ◌∙◌, if◌then◌else◌, Bool, List, None, Option, Some, ap, arith, drop, false, length, map, not, refl, subst, suc, sym, take, true}
 use Rattle.std.proofs.lemmas.Bool.Decides.{nat_tests}
 use Rattle.std.specs.Prelude.{min, nat_le, nat_lt}
-use Rattle.std.specs.List.{Contains, list_all}
+use Rattle.std.specs.List.{list_all}
 use Rattle.ring_types.specs.declared.entries.Entry.{Entry}
 use Rattle.ring_types.specs.declared.entries.Grant.{Grant}
 use Rattle.ring_types.specs.declared.entries.Opid.{Opid}
-use Rattle.ring_types.specs.declared.entries.Pair.{Pair}
 use Rattle.ring_types.specs.declared.entries.Payload.{Payload}
 use Rattle.ring_types.specs.declared.entries.Payload.TheVariants as payload
 use Rattle.ring_types.specs.declared.entries.Vote.{Vote}
@@ -14,7 +13,7 @@ use Rattle.ring_types.specs.declared.members.Member.{Member}
 use Rattle.ring_types.specs.declared.values.Change.{Change}
 use Rattle.ring_types.specs.Rings.{Layout, is_voter, runs_engine, votes}
 use Rattle.ring_types.specs.Rows.{change_fits, check, is_number, payload_fits}
-use Rattle.ring_types.specs.Gtids.{greatest_number, next_number}
+use Rattle.ring_types.specs.Gtids.{greatest_number}
 use Rattle.ring_types.specs.Rings.{server_of}
 use Rattle.ring_types.specs.Logs.{at_least, entry_at, is_rotate, last, rotates, same_opid, term_at}
 use Rattle.ring_types.specs.Sizes.{group_bytes, group_limit, group_size}
@@ -22,7 +21,6 @@ use Rattle.ring_model.specs.declared.effects.Action.{Action}
 use Rattle.ring_model.specs.declared.effects.Action.TheVariants as action
 use Rattle.ring_model.specs.declared.effects.Cause.{Cause}
 use Rattle.ring_model.specs.declared.effects.Cause.TheVariants as cause
-use Rattle.ring_model.specs.declared.effects.What.TheVariants as what
 use Rattle.ring_types.specs.declared.values.RowRefusal.{RowRefusal}
 use Rattle.ring_model.specs.declared.effects.Say.{Say}
 use Rattle.ring_model.specs.declared.effects.Step.{Step}
@@ -43,17 +41,17 @@ use Rattle.ring_model.specs.declared.nodes.Transfer.{Transfer}
 use Rattle.ring_model.specs.declared.nodes.Transfer.TheVariants as transfer
 use Rattle.ring_model.specs.Actions.{all_done, done, has_room, vote_in}
 use Rattle.ring_model.specs.Nodes.{is_leader, is_ready}
-use Rattle.ring_model.specs.Replication.{accept, batch_of, batch_length, batch_limit, beat, beat_to, counts, file_limit, file_number, follow_append, found, heard_among, is_proxied, kept_position, leader_hears, leads_it, match_append, on_ack, on_append, opid_before, outgrows, proxy_id, quieter, relay, reply, roll_back, send_direct, send_proxied, take_in, tear_in, unmatched}
+use Rattle.ring_model.specs.Replication.{accept, batch_of, beat, beat_to, counts, file_limit, file_number, follow_append, found, heard_among, is_proxied, kept_position, leader_hears, leads_it, match_append, on_ack, on_append, opid_before, outgrows, proxy_id, quieter, relay, reply, send_direct, send_proxied, take_in, tear_in, unmatched}
 use Rattle.ring_model.specs.Elections.{answer_by, answer_request, cast_actions, elect, floor_of, grant_vote, granted_now, has_granted, has_won, lead, lead_or_ask, leading, may_elect, new_vote, on_reply, on_request, refuse_vote, refused_now, requests, stand, stand_actions, voter_answers}
 use Rattle.ring_model.specs.Steps.{advance, commit_count, demoted, follow_actions, idle, own_entry, stepped, unknowns}
-use Rattle.ring_model.specs.Transfers.{after_ok, hand_over, has_matched, on_answer, with_more}
+use Rattle.ring_model.specs.Transfers.{after_ok, has_matched, on_answer, with_more}
 use Rattle.ring_model.specs.Writes.{awaits, change_refusal, committed_rows, is_exhausted, is_handing, length_limit, lock_of, lock_refusal, refused, rotate, rotate_refusal, rotate_step, size_refusal, write, write_entry, write_entry_step, write_refusal, write_txn}
 use Rattle.ring_model.proofs.Lists.{all_of, both_true}
 use Rattle.ring_model.proofs.Paths.{done_join}
 use Rattle.ring_lawful.proofs.Along.{Allowed, allowed_join}
 use Rattle.ring_lawful.proofs.Pairs.{at_contains}
 use Rattle.ring_lawful.proofs.Payloads.{checked_fit, number_fits}
-use Rattle.ring_lawful.proofs.Sized.{AllFit, BodyFits, May, Sized, all_drop, all_join, all_take, entry_fits, fit_join, follow_may, none_later, rotates_is, sized_after, turns, turns_take}
+use Rattle.ring_lawful.proofs.Sized.{AllFit, BodyFits, May, Sized, all_drop, all_take, entry_fits, fit_join, follow_may, none_later, rotates_is, sized_after, turns, turns_take}
 
 -- a candidate's log has room for its NoOp
 abbrev pub IsShort : Durable → Soft → Type 0

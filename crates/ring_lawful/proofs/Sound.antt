@@ -1,18 +1,16 @@
 -- In every world of every run each node's durable part is sound.
-use Rattle.std.proofs.Common.{◌≡◌, ℕ, ◌^◌, ◌<◌, ◌≤◌, ◌==◌, ◌&&◌, ◌||◌, [], ◌∷◌, ◌++◌, ◌∙◌, if◌then◌else◌, Bool, List, None, Option, Some, ap, arith, false, length, map, not, refl, subst, suc, sym, take, true, zero}
+use Rattle.std.proofs.Common.{◌≡◌, ℕ, ◌^◌, ◌<◌, ◌==◌, ◌&&◌, ◌||◌, [], ◌∷◌, ◌++◌, if◌then◌else◌, Bool, List, None, Option, Some, arith, false, length, not, refl, suc, take, true, zero}
 use Rattle.std.proofs.lemmas.Bool.Decides.{nat_tests}
-use Rattle.std.specs.Prelude.{nat_le, nat_lt, slice_get}
+use Rattle.std.specs.Prelude.{nat_le, nat_lt}
 use Rattle.std.specs.List.{Contains, list_all}
 use Rattle.ring_types.specs.declared.entries.Entry.{Entry}
 use Rattle.ring_types.specs.declared.entries.Opid.{Opid}
 use Rattle.ring_types.specs.declared.members.Member.{Member}
-use Rattle.ring_types.specs.Logs.{entry_at, rotates}
 use Rattle.ring_types.specs.Rings.{Layout, is_voter, votes}
 use Rattle.ring_types.specs.Rows.{payload_fits}
 use Rattle.ring_types.specs.Sizes.{group_bytes, group_limit}
 use Rattle.ring_model.specs.declared.effects.Action.TheVariants as action
 use Rattle.ring_model.specs.declared.effects.Cause.{Cause}
-use Rattle.ring_model.specs.declared.effects.Step.{Step}
 use Rattle.ring_model.specs.declared.effects.What.TheVariants as what
 use Rattle.ring_model.specs.declared.messages.Body.{Body}
 use Rattle.ring_model.specs.declared.messages.Body.TheVariants as body
@@ -31,26 +29,24 @@ use Rattle.ring_model.specs.declared.nodes.Soft.{Soft}
 use Rattle.ring_model.specs.declared.nodes.Transfer.{Transfer}
 use Rattle.ring_model.specs.declared.nodes.Transfer.TheVariants as transfer
 use Rattle.ring_model.specs.Actions.{all_done, done}
-use Rattle.ring_model.specs.Dispatch.{body_step, deliver, is_foreign, step}
+use Rattle.ring_model.specs.Dispatch.{body_step, is_foreign, step}
 use Rattle.ring_model.specs.Elections.{elect}
-use Rattle.ring_model.specs.Nodes.{IsSound, empty_durable, fresh_soft, is_follower, is_leader, recover, stray_opids}
+use Rattle.ring_model.specs.Nodes.{is_follower, is_leader, recover, stray_opids}
 use Rattle.ring_model.specs.Quorums.{is_listed}
 use Rattle.ring_model.specs.Runs.{IsRun, Move, is_whole_input, world}
 use Rattle.ring_model.specs.Steps.{idle, message, stepped}
 use Rattle.ring_model.specs.Transfers.{ask_transfer, begin_mock, begin_round, cancel, count_answer, deciding, hand_over, has_matched, is_off, is_old_round, mock_hears, mock_requests, mock_result, on_mock_reply, on_mock_request, on_mock_result, on_mock_start, on_timeout, opening, own_failed, own_passed, passes, result_heard, transfer_hears, transfer_refusal, verdict, with_answer}
-use Rattle.ring_model.specs.Worlds.{restart_actions}
 use Rattle.ring_model.specs.Writes.{refused}
 use Rattle.ring_model.proofs.Dispatch.{IsGiven}
-use Rattle.ring_model.proofs.Invariant.{History, IsHistory, IsNode, IsRunning}
 use Rattle.ring_model.proofs.Lists.{all_of, both_true}
 use Rattle.ring_model.proofs.Runs.{reached}
 use Rattle.ring_lawful.specs.Lawful.{EveryNodeIsSound, EveryRunKeepsCandidatesShort}
 use Rattle.ring_lawful.proofs.Along.{Along, allowed_along, along_cut, along_end}
-use Rattle.ring_lawful.proofs.Carry.{Holds, IsKeptByAll, StepKeeps, holds_always}
+use Rattle.ring_lawful.proofs.Carry.{Holds, IsKeptByAll, holds_always}
 use Rattle.ring_lawful.proofs.Order.{node_order}
-use Rattle.ring_lawful.proofs.Pairs.{Placed, at_contains}
+use Rattle.ring_lawful.proofs.Pairs.{Placed, at_contains, within_some}
 use Rattle.ring_lawful.proofs.Prepared.{every_node_keeps_pairs}
-use Rattle.ring_lawful.proofs.Sized.{AllFit, BodyFits, May, Sized, all_weaker, entry_fits, fit_each, increasing, rotates_is, sized_one, sized_same, turns}
+use Rattle.ring_lawful.proofs.Sized.{AllFit, BodyFits, May, Sized, all_weaker, entry_fits, fit_each, increasing, rotates_is, sized_one, sized_at}
 use Rattle.ring_lawful.proofs.SizedRules.{IsShort, Keeps, answered_keeps, append_keeps, beat_keeps, elect_keeps, idle_keeps, quiet_keeps, relay_keeps, reply_keeps, request_keeps, rotate_keeps, write_keeps}
 
 -- ---- rules whose messages claim nothing
@@ -209,8 +205,8 @@ partly_sized : (ring : Layout) (d : Durable) (n : ℕ) (o : List Opid) → Sized
 partly_sized ring d zero [] x = x
 partly_sized ring d (suc n) [] x = x
 partly_sized ring d zero (o ∷ opids) x = x
-partly_sized ring d (suc zero) (o ∷ opids) x = sized_same ring d (done d (action.DropPairs (o ∷ opids))) refl refl refl x
-partly_sized ring d (suc (suc n)) (o ∷ opids) x = sized_same ring d (done d (action.DropPairs (o ∷ opids))) refl refl refl x
+partly_sized ring d (suc zero) (o ∷ opids) x = sized_at ring d (done d (action.DropPairs (o ∷ opids))) refl refl refl x
+partly_sized ring d (suc (suc n)) (o ∷ opids) x = sized_at ring d (done d (action.DropPairs (o ∷ opids))) refl refl refl x
 
 sized_kept : (ring : Layout) → IsKeptByAll ring (SizedAt ring) ShortAt (FitsIn ring)
 sized_kept ring = record {
@@ -220,18 +216,13 @@ sized_kept ring = record {
       let b = step_keeps ring id h.messages d s i given whole sent x short in
       let along : Along (Sized ring) d st.plan.actions = allowed_along (May ring) (Sized ring) (sized_one ring) d st.plan.actions b.allowed x in
       record { cut = λ c. along_cut (Sized ring) d st.plan.actions c along; whole = along_end (Sized ring) d st.plan.actions along; soft = b.short; sent = λ m in_m. fit_each ring st.plan.messages m b.sent in_m };
-  recovers = λ h id d n x. sized_same ring d (recover d) refl refl refl x;
+  recovers = λ h id d n x. sized_at ring d (recover d) refl refl refl x;
   partly = λ h id d n k x. partly_sized ring d n (stray_opids d) x;
   starts = λ h id d n x bad. absurd cc;
 }
 
 pub sized_always : (ring : Layout) (run : List Move) → IsRun ring run → Holds (SizedAt ring) ShortAt (FitsIn ring) (world ring run)
 sized_always ring run lawful = holds_always ring (SizedAt ring) ShortAt (FitsIn ring) (sized_kept ring) run lawful
-
-within_some : (xs : List Entry) (k : ℕ) → k < length xs → (e : Entry) × (slice_get xs k ≡ Some e)
-within_some [] k lt = absurd (omega arith)
-within_some (x ∷ xs) zero lt = (x, refl)
-within_some (x ∷ xs) (suc k) lt = within_some xs k (omega arith)
 
 -- the last entry's position is the length
 pub short_log : (ring : Layout) (log : List Entry) → Placed log → list_all (entry_fits ring) log ≡ true → length log < 2 ^ 62
