@@ -9,6 +9,8 @@ mod node_block;
 mod reports;
 mod sayings;
 mod table_text;
+#[cfg(test)]
+mod tests;
 mod words;
 
 pub use reports::{write_node, write_report};
