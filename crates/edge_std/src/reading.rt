@@ -68,7 +68,7 @@ pub(crate) fn read_whole<F: Read + Drop>(
     limited(bytes, limit)
 }
 
-/// The whole file of that name.
+/// All bytes of the file so named.
 pub(crate) fn read_named<R: Files>(
     alloc: Global,
     files: &R,

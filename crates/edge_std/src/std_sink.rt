@@ -9,7 +9,7 @@ use std::io::Write;
 /// One of the two outputs of the process, as `StdSink::new(rt.stdout())` and
 /// `StdSink::new(rt.stderr())`.
 ///
-/// A write that takes nothing of a piece that is not empty is a fault, and so is a failed flush.
+/// An output that no longer takes bytes has failed, and so has one that cannot be flushed.
 #[derive(Drop)]
 pub struct StdSink<W> {
     output: W,

@@ -7,7 +7,7 @@ use Rattle.edge_traits.specs.declared.files.ShelfFile.{ShelfFile}
 abbrev pub file_of : List ShelfFile → List ℕ → Option ShelfFile
 file_of files name = find (λ (f : ShelfFile). pointwise nat_eq f.name name) files
 
--- the bytes that the files hold under a name: of two files with one name, the earlier alone
+-- the bytes under a name: where it stands twice, those of the first file
 abbrev pub held : List ShelfFile → List ℕ → Option (List ℕ)
 held files name = option_map (λ (f : ShelfFile). f.bytes) (file_of files name)
 

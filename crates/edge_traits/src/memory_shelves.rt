@@ -27,8 +27,8 @@ impl Model for MemoryShelf {
 }
 
 impl MemoryShelf {
-    /// `failing` has the numbers, from 1, of the calls of `fetch` that fail. Of two files with one name
-    /// the earlier alone is held.
+    /// `failing` says which calls of `fetch` fail, counted from 1. Where a name stands twice among the
+    /// files, the first one counts.
     pub fn new(alloc: Global, files: List<ShelfFile>, failing: List<u64>) -> MemoryShelf
         ensures state { result ≡ record { files = files; calls = no_calls failing } }
         ensures told { ⟦<MemoryShelf as Shelf>⟧.files result ≡ Some (held files) }

@@ -24,7 +24,7 @@ impl Model for MemorySink {
 }
 
 impl MemorySink {
-    /// `failing` has the numbers, from 1, of the calls of `put` that fail.
+    /// `failing` says which calls of `put` fail, counted from 1.
     pub fn new(alloc: Global, failing: List<u64>) -> MemorySink
         ensures state { result ≡ record { taken = []; calls = no_calls failing } }
         ensures told { ⟦<MemorySink as Sink>⟧.taken result ≡ Some [] }

@@ -20,13 +20,13 @@ pub enum FetchError {
 pub trait Shelf {
     ghost use Rattle.std.specs.Prelude.{Option};
 
-    // the bytes of each file by its name, where the shelf tells its files
+    // the bytes of each file by its name, on a shelf that tells them
     ghost files: { Self → Option (List ℕ → Option (List ℕ)) };
 
     // how many faults there were: it never falls, and 2^64 - 1 is its last value
     ghost faults: { Self → ℕ };
 
-    /// The whole file of that name, of at most `limit` bytes. No call changes the files.
+    /// All bytes of the file so named, where they are no more than `limit`. The files stay as they are.
     fn fetch(&mut self, name: &Text, limit: u64) -> Result<List<u8>, FetchError>
         ensures told { IfSome (files self.old) (λ f. FetchIs (f name.now) limit result) }
         ensures within { IfOk result (λ bytes. length bytes ≤ limit) }

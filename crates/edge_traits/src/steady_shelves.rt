@@ -25,7 +25,7 @@ impl Model for SteadyShelf {
 }
 
 impl SteadyShelf {
-    /// Of two files with one name the earlier alone is held.
+    /// Where a name stands twice among the files, the first one counts.
     pub fn new(alloc: Global, files: List<ShelfFile>) -> SteadyShelf
         ensures state { result ≡ files }
         ensures told { ⟦<SteadyShelf as Shelf>⟧.files result ≡ Some (held files) }
