@@ -6,7 +6,7 @@ use Rattle.ring_types.specs.Rings.{Layout}
 use Rattle.ring_model.specs.Worlds.{first_world, shown}
 use Rattle.ring_model.specs.Runs.{world, whole_moves}
 use Rattle.ring_model.specs.Safety.{EveryRunIsSafeSoFar}
-use Rattle.ring_lawful.specs.Lawful.{EveryRunPreparesInOrder}
+use Rattle.ring_lawful.specs.Lawful.{EveryRunChoosesValid, EveryRunPreparesInOrder}
 use Rattle.ring_model.specs.declared.worlds.Event.{Event}
 use Rattle.ring_file.specs.Documents.{ring_of}
 use Rattle.schedule_text.specs.Schedules.{events_of}
@@ -79,9 +79,9 @@ report-of-is : (ring : Layout) (events : List Event) → report_of ring events �
 unfolding report_of
 report-of-is ring events = refl
 
-pub printed : (words : List (List ℕ)) (files : Files) (before now : ℕ) (text : List ℕ) (old new : Option (List ℕ)) → EveryRunIsSafeSoFar → EveryRunPreparesInOrder
+pub printed : (words : List (List ℕ)) (files : Files) (before now : ℕ) (text : List ℕ) (old new : Option (List ℕ)) → EveryRunIsSafeSoFar → EveryRunPreparesInOrder → EveryRunChoosesValid
     → ComesTo words files before now (Ok text) → IfSome old (λ taken. new ≡ Some (taken ++ text)) → Printed words files old new
-printed words files before now text old new law prepares w wrote =
+printed words files before now text old new law prepares chooses w wrote =
     let s = steps words w.ring_answer w.schedule_answer text w.comes in
     let p = scheduled s.ring s.schedule_bytes text s.part in
     let run = run-of s.ring p.events p.all_known in
@@ -103,4 +103,5 @@ printed words files before now text old new law prepares w wrote =
       written = written-as old new text (report s.ring (shown s.ring (world s.ring (whole_moves p.events)))) (p.text_is ∙ report-of-is s.ring p.events) wrote;
       safe = λ before after e. law s.ring before (front-of s.ring (whole_moves p.events) before after e run);
       prepared = λ before after e. prepares s.ring before (front-of s.ring (whole_moves p.events) before after e run);
+      valid = λ before after e. chooses s.ring before (front-of s.ring (whole_moves p.events) before after e run);
     }

@@ -9,7 +9,7 @@ use Rattle.edge_traits.specs.declared.sinks.SinkFault.{SinkFault}
 use Rattle.ring_types.specs.Rings.{Layout}
 use Rattle.ring_model.specs.Worlds.{shown}
 use Rattle.ring_model.specs.Runs.{Move, IsRun, world, whole_moves}
-use Rattle.ring_model.specs.Safety.{SafeSoFar, PreparedAgrees}
+use Rattle.ring_model.specs.Safety.{SafeSoFar, PreparedAgrees, ChosenIsValid}
 use Rattle.ring_model.specs.declared.worlds.Event.{Event}
 use Rattle.ring_file.specs.Documents.{ring_of}
 use Rattle.schedule_text.specs.Schedules.{events_of}
@@ -40,7 +40,7 @@ pub record ComesTo (words : List (List ℕ)) (files : Files) (before now : ℕ) 
   pub schedule_answered : (names : Names) → names_of words ≡ Ok names → Answered files before now names.schedule schedule_limit schedule_answer
   pub comes : text_of words ring_answer schedule_answer ≡ wanted
 
--- ---- status 0: the two files are a ring and a schedule of it, the report of the run is written, and every world on its way is safe as far as that is proved
+-- ---- status 0: the two files are a ring and a schedule of it, the report of the run is written, and every world on its way is safe
 pub record Printed (words : List (List ℕ)) (files : Files) (out_old out_new : Option (List ℕ)) : Type 0 where
   pub names : Names
   pub named : names_of words ≡ Ok names
@@ -59,6 +59,7 @@ pub record Printed (words : List (List ℕ)) (files : Files) (out_old out_new : 
   pub written : IfSome out_old (λ old. out_new ≡ Some (old ++ report ring (shown ring (world ring (whole_moves events)))))
   pub safe : (before after : List Move) → whole_moves events ≡ before ++ after → SafeSoFar ring before
   pub prepared : (before after : List Move) → whole_moves events ≡ before ++ after → PreparedAgrees ring (world ring before)
+  pub valid : (before after : List Move) → whole_moves events ≡ before ++ after → ChosenIsValid ring (world ring before)
 
 -- ---- any other status: its cause, and its line
 -- a front of the text was written

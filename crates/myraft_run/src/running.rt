@@ -7,7 +7,7 @@ use crate::jobs::text;
 use crate::lines::tell;
 use crate::stops::{Status, Stop, status_of};
 use edge_traits::{Shelf, Sink, SinkFault};
-use ring_lawful::law_prepared_agrees;
+use ring_lawful::{law_chosen_is_valid, law_prepared_agrees};
 use ring_model::law_safe;
 use std::alloc::Global;
 
@@ -38,6 +38,7 @@ pub fn run<H: Shelf, O: Sink, E: Sink>(
 {
     law_safe();
     law_prepared_agrees();
+    law_chosen_is_valid();
     match text(alloc, words.as_slice(), shelf) {
         Ok(text) => match write(out, text.as_slice()) {
             Ok(()) => Status(0),

@@ -156,7 +156,7 @@ module _ (ring : Layout) (D : ℕ → Durable → Type 0) (R : ℕ → Durable �
   line_holds w h completion (line.Crash node) k known x = member_holds w h node GoDown completion k tt tt x
   line_holds w h completion (line.Restart node) k known x = member_holds w h node ComeUp completion k tt tt x
 
-  event_holds : (w : WorldState) (h : History) (m : Move) → IsWorld ring w h → is_known ring w m.event.what ≡ true → Holds D R M w → Holds D R M (world_step ring w m.event m.completion)
+  pub event_holds : (w : WorldState) (h : History) (m : Move) → IsWorld ring w h → is_known ring w m.event.what ≡ true → Holds D R M w → Holds D R M (world_step ring w m.event m.completion)
   unfolding world_step
   event_holds w h m k known x = line_holds w h m.completion m.event.what k known x
 
@@ -164,7 +164,7 @@ module _ (ring : Layout) (D : ℕ → Durable → Type 0) (R : ℕ → Durable �
   run_holds w h [] is k x = x
   run_holds w h (m ∷ run) is k x = let y = event_over ring w h m k in run_holds (world_step ring w m.event m.completion) y.after run is.2 y.world (event_holds w h m k is.0 x)
 
-  first_keeps : Holds D R M first_world
+  pub first_keeps : Holds D R M first_world
   first_keeps = record {
     nodes = all.first;
     running = λ id s up. let is : fresh_soft empty_durable ≡ s = cc in subst (λ (o : Soft). R id empty_durable o) is (all.starts first_history id empty_durable ((first_holds ring).nodes id) (all.first id));

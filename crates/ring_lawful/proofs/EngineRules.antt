@@ -319,7 +319,7 @@ rows_passed ring me d changes is = go (check ring.schema (committed_rows ring d)
     go (Some r) y = absurd cc
     go None y = y
 
-write_holds : (ring : Layout) (me : ℕ) (d : Durable) (s : Soft) (changes : List Change) → write_refusal ring me d s changes ≡ None → list_any (is_held d.prepared) changes ≡ false
+pub write_holds : (ring : Layout) (me : ℕ) (d : Durable) (s : Soft) (changes : List Change) → write_refusal ring me d s changes ≡ None → list_any (is_held d.prepared) changes ≡ false
 unfolding write_refusal
 write_holds ring me d s changes is = go (is_leader s.role) (is_ready s) (runs_engine ring me) (is_handing s.transfer) is
   where

@@ -9,7 +9,7 @@ use Rattle.ring_model.specs.declared.messages.Message.{Message}
 use Rattle.ring_model.specs.declared.nodes.Durable.{Durable}
 use Rattle.ring_model.specs.declared.nodes.Peer.{Peer}
 use Rattle.ring_model.specs.declared.nodes.Soft.{Soft}
-use Rattle.ring_model.specs.Nodes.{IsPendingIn, PeerFits, fresh_soft, is_leader, is_ready}
+use Rattle.ring_model.specs.Nodes.{IsLawful, IsPendingIn, IsSound, PeerFits, fresh_soft, is_leader, is_ready}
 use Rattle.ring_model.specs.Runs.{IsRun, Move, world}
 use Rattle.ring_model.proofs.Lists.{all_of}
 use Rattle.ring_lawful.specs.Lawful.{EveryRunningNodeIsLawful, KeepsCounts, RunsEngine}
@@ -18,6 +18,7 @@ use Rattle.ring_lawful.proofs.Leads.{SoftFits, increasing, stands}
 use Rattle.ring_lawful.proofs.LeadsRules.{step_soft}
 use Rattle.ring_lawful.proofs.Order.{every_node_keeps_order, running_counts}
 use Rattle.ring_lawful.proofs.Prepared.{every_node_keeps_pairs}
+use Rattle.ring_lawful.proofs.SizedRules.{IsShort}
 use Rattle.ring_lawful.proofs.Sound.{every_node_is_sound, every_run_keeps_candidates_short}
 
 abbrev Anything : ℕ → Durable → Type 0
@@ -51,28 +52,30 @@ unready : (s : Soft) (n : ℕ) → is_leader s.role ≡ true → (nat_le s.ready
 unready s n led (inr end) is = end
 unready s n led (inl before) is = absurd (let z : is_ready s ≡ true = rw (led, before) refl in let y : true ≡ false = sym z ∙ is in cc)
 
+-- a running node that keeps its counts, its engine and its soft part over a sound durable part is lawful
+pub lawful_from : (ring : Layout) (id : ℕ) (d : Durable) (s : Soft) → IsSound ring id d → KeepsCounts d s → RunsEngine ring id d s → IsShort d s → SoftFits ring id d.log s → IsLawful ring id d s
+lawful_from ring id d s sound c p short x = record {
+  sound = sound;
+  pairs_in_log = p.pairs_in_log;
+  commit_above = c.commit_above;
+  commit_inside = c.commit_inside;
+  engine_follows = p.engine_follows;
+  learner_follows = x.learner;
+  candidate_short = short;
+  leads_alone = x.alone;
+  peers_are_others = λ role. (x.leads (ap is_leader role)).others;
+  peers_fit = λ role. all_from (PeerFits (length d.log)) s.peers (λ q in_q. peer_fits (length d.log) q (c.peers_near role q in_q) (all_of (λ (q : Peer). nat_le q.silent 3) s.peers q (x.leads (ap is_leader role)).silent in_q));
+  ready_inside = λ role. (let l = x.leads (ap is_leader role) in (l.low, l.inside));
+  unready_ends = λ role is. unready s (length d.log) (ap is_leader role) (x.leads (ap is_leader role)).ends is;
+  all_prepared = p.all_prepared;
+  pending_in_log = λ role. all_from (IsPendingIn d.log s.commit) s.pending (x.leads (ap is_leader role)).waits;
+  pending_rises = increasing s.pending x.rises;
+  transfer_fits = x.transfer;
+  mock_fits = x.mock;
+}
+
 pub every_running_node_is_lawful : EveryRunningNodeIsLawful
 every_running_node_is_lawful ring run lawful id s up =
     let d : Durable = ((world ring run).nodes id).durable in
-    let x : SoftFits ring id d.log s = (soft_always ring run lawful).running id s up in
-    let c : KeepsCounts d s = (every_node_keeps_order ring run lawful).1 id s up in
-    let p : RunsEngine ring id d s = (every_node_keeps_pairs ring run lawful).1 id s up in
-    record {
-      sound = every_node_is_sound ring run lawful id;
-      pairs_in_log = p.pairs_in_log;
-      commit_above = c.commit_above;
-      commit_inside = c.commit_inside;
-      engine_follows = p.engine_follows;
-      learner_follows = x.learner;
-      candidate_short = every_run_keeps_candidates_short ring run lawful id s up;
-      leads_alone = x.alone;
-      peers_are_others = λ role. (x.leads (ap is_leader role)).others;
-      peers_fit = λ role. all_from (PeerFits (length d.log)) s.peers (λ q in_q. peer_fits (length d.log) q (c.peers_near role q in_q) (all_of (λ (q : Peer). nat_le q.silent 3) s.peers q (x.leads (ap is_leader role)).silent in_q));
-      ready_inside = λ role. (let l = x.leads (ap is_leader role) in (l.low, l.inside));
-      unready_ends = λ role is. unready s (length d.log) (ap is_leader role) (x.leads (ap is_leader role)).ends is;
-      all_prepared = p.all_prepared;
-      pending_in_log = λ role. all_from (IsPendingIn d.log s.commit) s.pending (x.leads (ap is_leader role)).waits;
-      pending_rises = increasing s.pending x.rises;
-      transfer_fits = x.transfer;
-      mock_fits = x.mock;
-    }
+    lawful_from ring id d s (every_node_is_sound ring run lawful id) ((every_node_keeps_order ring run lawful).1 id s up) ((every_node_keeps_pairs ring run lawful).1 id s up)
+    (every_run_keeps_candidates_short ring run lawful id s up) ((soft_always ring run lawful).running id s up)

@@ -16,3 +16,16 @@ pub mod Leads
 pub mod LeadsRules
 pub mod Lawful
 pub mod Possible
+pub mod Locks
+pub mod Numbers
+pub mod Growing
+pub mod Books
+pub mod Chosen
+pub mod Chains
+pub mod SteadyAppend
+pub mod SteadyRules
+pub mod Parts
+pub mod Sends
+pub mod EachStep
+pub mod StepSends
+pub mod Recovery

@@ -35,12 +35,12 @@ use Rattle.ring_lawful.proofs.Sized.{May, Sized, all_weaker, entry_fits, rotates
 use Rattle.ring_lawful.proofs.Sound.{short_log, sized_always, step_keeps}
 
 -- what holds before and after each action
-record Good (ring : Layout) (d : Durable) : Type 0 where
-  log : IsLog d.log
-  payloads : payloads_fit ring.schema d.log ≡ true
-  applied : d.applied ≤ length d.log
+pub record Good (ring : Layout) (d : Durable) : Type 0 where
+  pub log : IsLog d.log
+  pub payloads : payloads_fit ring.schema d.log ≡ true
+  pub applied : d.applied ≤ length d.log
 
-good : (ring : Layout) (d : Durable) → KeepsOrder d → Sized ring d → Good ring d
+pub good : (ring : Layout) (d : Durable) → KeepsOrder d → Sized ring d → Good ring d
 good ring d o x =
     let f = x.files in
     let q = rotates_is d.log in
@@ -50,7 +50,7 @@ good ring d o x =
       applied = o.applied_inside;
     }
 
-along_from : (P : Durable → Type 0) (d : Durable) (actions : List Action) → ((n : ℕ) → P (all_done d (take n actions))) → Along P d actions
+pub along_from : (P : Durable → Type 0) (d : Durable) (actions : List Action) → ((n : ℕ) → P (all_done d (take n actions))) → Along P d actions
 along_from P d [] each = each 0
 along_from P d (a ∷ actions) each = (each 0, along_from P (done d a) actions (λ n. each (suc n)))
 
@@ -68,7 +68,7 @@ possible_one ring d (action.Commit p) x y m c = c
 possible_one ring d (action.RollBackAfter p) x y m c = tt
 possible_one ring d (action.DropPairs opids) x y m c = tt
 
-possible_all : (ring : Layout) (d : Durable) (actions : List Action) → Along (Good ring) d actions → Allowed (May ring) d actions → Allowed Can d actions → ArePossible ring.schema d actions
+pub possible_all : (ring : Layout) (d : Durable) (actions : List Action) → Along (Good ring) d actions → Allowed (May ring) d actions → Allowed Can d actions → ArePossible ring.schema d actions
 possible_all ring d [] g m c = tt
 possible_all ring d (a ∷ actions) g m c = (possible_one ring d a g.0 (along_here (Good ring) (done d a) actions g.1) m.0 c.0, possible_all ring (done d a) actions g.1 m.1 c.1)
 
@@ -82,7 +82,7 @@ tail_one d (action.Commit position) t = absurd t
 tail_one d (action.RollBackAfter position) t = absurd t
 tail_one d (action.DropPairs opids) t = absurd t
 
-tail_can : (d : Durable) (actions : List Action) → AllTail actions → Allowed Can d actions
+pub tail_can : (d : Durable) (actions : List Action) → AllTail actions → Allowed Can d actions
 tail_can d [] t = tt
 tail_can d (a ∷ actions) t = (tail_one d a t.0, tail_can (done d a) actions t.1)
 
@@ -95,7 +95,7 @@ given_is messages id (input.Rotate client) x = tt
 given_is messages id (input.Transfer client target) x = tt
 given_is messages id (input.Cancel client) x = tt
 
-restart_possible : (ring : Layout) (d : Durable) → ArePossible ring.schema d (restart_actions d)
+pub restart_possible : (ring : Layout) (d : Durable) → ArePossible ring.schema d (restart_actions d)
 restart_possible ring d = go (stray_opids d)
   where
     go : (o : List Opid) → ArePossible ring.schema d (elim o [ [] ↦ [] | o ∷ opids ↦ action.DropPairs (o ∷ opids) ∷ [] ])

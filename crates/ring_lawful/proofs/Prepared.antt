@@ -1,5 +1,5 @@
 -- In every world of every run the prepared pairs are those of a stretch above the applied count, and a logtailer has none.
-use Rattle.std.proofs.Common.{◌≡◌, ℕ, [], ◌∷◌, ◌∙◌, Bool, List, Some, ap, arith, false, not, refl, suc, sym, take, true, zero}
+use Rattle.std.proofs.Common.{◌≡◌, ℕ, ◌≤◌, [], ◌∷◌, ◌∙◌, Bool, List, ap, arith, false, length, not, refl, suc, sym, take, true, zero}
 use Rattle.std.proofs.lemmas.Bool.Decides.{nat_tests}
 use Rattle.std.specs.Prelude.{filter, map}
 use Rattle.std.specs.List.{list_any}
@@ -20,7 +20,7 @@ use Rattle.ring_model.specs.Runs.{IsRun, Move, world}
 use Rattle.ring_model.proofs.Dispatch.{step_row}
 use Rattle.ring_model.proofs.Invariant.{History, IsNode}
 use Rattle.ring_model.proofs.Turns.{seal_within}
-use Rattle.ring_lawful.specs.Lawful.{EveryRunPreparesInOrder, EveryNodeKeepsPairs}
+use Rattle.ring_lawful.specs.Lawful.{EveryRunPreparesInOrder, EveryNodeKeepsPairs, KeepsPairs, RunsEngine}
 use Rattle.ring_lawful.proofs.Along.{Along, along_cut, along_end}
 use Rattle.ring_lawful.proofs.Carry.{Holds, IsKeptByAll, holds_always}
 use Rattle.ring_lawful.proofs.Engine.{Clean, HasPairs, clean_above, clean_has, clean_kept}
@@ -28,7 +28,7 @@ use Rattle.ring_lawful.proofs.EngineDispatch.{row_fits, step_both}
 use Rattle.ring_lawful.proofs.EngineRules.{AllTail, IsTail}
 use Rattle.ring_lawful.proofs.EngineSteps.{EngineRuns, stands_down}
 use Rattle.ring_lawful.proofs.Order.{placed_in}
-use Rattle.ring_lawful.proofs.Pairs.{none_between}
+use Rattle.ring_lawful.proofs.Pairs.{Placed, none_between}
 
 abbrev pub IsEmpty : Durable → Type 0
 IsEmpty d = (d.applied ≡ 0) × (d.prepared ≡ [])
@@ -54,13 +54,16 @@ tail_one d (action.Commit position) t x = absurd t
 tail_one d (action.RollBackAfter position) t x = absurd t
 tail_one d (action.DropPairs opids) t x = absurd t
 
-tail_along : (d : Durable) (actions : List Action) → AllTail actions → IsEmpty d → Along IsEmpty d actions
+pub tail_along : (d : Durable) (actions : List Action) → AllTail actions → IsEmpty d → Along IsEmpty d actions
 tail_along d [] t x = x
 tail_along d (a ∷ actions) t x = (x, tail_along (done d a) actions t.1 (tail_one d a t.0 x))
 
 -- ---- recovery
+pub recovered_from : (d : Durable) → Placed d.log → d.applied ≤ length d.log → HasPairs d → (k : ℕ) × Clean (recover d) k
+recovered_from d placed inside x = (x.0, record { placed = placed; applied = inside; inside = x.2; prepared = x.3 })
+
 recovered : (ring : Layout) (h : History) (id : ℕ) (d : Durable) → IsNode ring h id d → HasPairs d → (k : ℕ) × Clean (recover d) k
-recovered ring h id d n x = (x.0, record { placed = placed_in ring h d.term d.log n.log; applied = seal_within ring h d.term d.applied d.log n.applied; inside = x.2; prepared = x.3 })
+recovered ring h id d n x = recovered_from d (placed_in ring h d.term d.log n.log) (seal_within ring h d.term d.applied d.log n.applied) x
 
 same_is : (a b : Opid) → same_opid a b ≡ true → (log : List Entry) → has_opid log a ≡ has_opid log b
 same_is a b is [] = refl
@@ -68,7 +71,7 @@ same_is a b is (e ∷ log) =
     let one : same_opid e.opid a ≡ same_opid e.opid b = grind (arith, nat_tests, is) in
     let rest = same_is a b is log in rw (one, rest) refl
 
-stray_not : (log : List Entry) (o : Opid) (ps : List Pair) → has_opid log o ≡ true → list_any (same_opid o) (map (λ (p : Pair). p.opid) (filter (λ (p : Pair). not (has_opid log p.opid)) ps)) ≡ false
+pub stray_not : (log : List Entry) (o : Opid) (ps : List Pair) → has_opid log o ≡ true → list_any (same_opid o) (map (λ (p : Pair). p.opid) (filter (λ (p : Pair). not (has_opid log p.opid)) ps)) ≡ false
 stray_not log o [] has = refl
 stray_not log o (p ∷ ps) has = go (has_opid log p.opid) refl (same_opid o p.opid) refl (stray_not log o ps has)
   where
@@ -93,7 +96,7 @@ dropped_pairs d opids is =
     filter_within (λ (p : Pair). has_opid d.log p.opid) (λ (p : Pair). not (list_any (same_opid p.opid) opids)) d.prepared
     (λ p has. ap (λ (os : List Opid). not (list_any (same_opid p.opid) os)) (sym is) ∙ ap not (stray_not d.log p.opid d.prepared has))
 
-partly_one : (ring : Layout) (id : ℕ) (d : Durable) (n : ℕ) (o : List Opid) → stray_opids d ≡ o → Engine ring id d → Engine ring id (all_done d (take n (elim o [ [] ↦ [] | o ∷ opids ↦ action.DropPairs (o ∷ opids) ∷ [] ])))
+pub partly_one : (ring : Layout) (id : ℕ) (d : Durable) (n : ℕ) (o : List Opid) → stray_opids d ≡ o → Engine ring id d → Engine ring id (all_done d (take n (elim o [ [] ↦ [] | o ∷ opids ↦ action.DropPairs (o ∷ opids) ∷ [] ])))
 partly_one ring id d zero [] is x = x
 partly_one ring id d (suc n) [] is x = x
 partly_one ring id d zero (o ∷ opids) is x = x
@@ -110,7 +113,7 @@ partly_one ring id d (suc n) (o ∷ opids) is x = go n
     go (suc n) = y
 
 -- ---- every step
-engine_kept : (ring : Layout) → IsKeptByAll ring (Engine ring) (Running ring) Nothing
+pub engine_kept : (ring : Layout) → IsKeptByAll ring (Engine ring) (Running ring) Nothing
 engine_kept ring = record {
   first = λ id. record { engine = λ runs. (0, omega arith, omega arith, refl); tailer = λ runs. (refl, refl) };
   steps = λ h id d s i k n r given whole sent x y.
@@ -151,21 +154,27 @@ every_run_prepares_in_order ring run lawful =
 empty_has : (d : Durable) → IsEmpty d → HasPairs d
 empty_has d x = (d.applied, omega arith, omega (arith, x.0), ap (filter (λ (p : Pair). has_opid d.log p.opid)) x.1 ∙ sym (ap pairs_in (none_between d.log d.applied d.applied (omega arith))))
 
+pub pairs_of : (ring : Layout) (id : ℕ) (d : Durable) → Engine ring id d → KeepsPairs ring id d
+pairs_of ring id d e = record { pairs_in_order = go (runs_engine ring id) refl; tailer = e.tailer }
+  where
+    go : (b : Bool) → runs_engine ring id ≡ b → HasPairs d
+    go true is = e.engine is
+    go false is = empty_has d (e.tailer is)
+
+pub runs_of : (ring : Layout) (id : ℕ) (d : Durable) (s : Soft) → Engine ring id d → Running ring id d s → RunsEngine ring id d s
+runs_of ring id d s e r = record {
+  pairs_in_log = kept_in_log (runs_engine ring id) refl;
+  engine_follows = λ runs. (r runs).follows;
+  all_prepared = λ ready runs. ((r runs).all ready).prepared;
+}
+  where
+    kept_in_log : (b : Bool) → runs_engine ring id ≡ b → kept_pairs d ≡ d.prepared
+    kept_in_log true is = let x = r is in clean_kept d x.k x.clean
+    kept_in_log false is = let z = e.tailer is in ap (filter (λ (p : Pair). has_opid d.log p.opid)) z.1 ∙ sym z.1
+
 pub every_node_keeps_pairs : EveryNodeKeepsPairs
 every_node_keeps_pairs ring run lawful =
     let x = held ring run lawful in (
-      λ id. (let d = ((world ring run).nodes id).durable in record { pairs_in_order = go id (runs_engine ring id) refl (x.nodes id); tailer = (x.nodes id).tailer }),
-      λ id s up. record {
-        pairs_in_log = kept_in_log id s up (runs_engine ring id) refl;
-        engine_follows = λ runs. (x.running id s up runs).follows;
-        all_prepared = λ ready runs. ((x.running id s up runs).all ready).prepared;
-      },
+      λ id. pairs_of ring id ((world ring run).nodes id).durable (x.nodes id),
+      λ id s up. runs_of ring id ((world ring run).nodes id).durable s (x.nodes id) (x.running id s up),
     )
-  where
-    go : (id : ℕ) (b : Bool) → runs_engine ring id ≡ b → Engine ring id ((world ring run).nodes id).durable → HasPairs ((world ring run).nodes id).durable
-    go id true is e = e.engine is
-    go id false is e = empty_has ((world ring run).nodes id).durable (e.tailer is)
-
-    kept_in_log : (id : ℕ) (s : Soft) → ((world ring run).nodes id).soft ≡ Some s → (b : Bool) → runs_engine ring id ≡ b → kept_pairs ((world ring run).nodes id).durable ≡ ((world ring run).nodes id).durable.prepared
-    kept_in_log id s up true is = let r = (held ring run lawful).running id s up is in clean_kept ((world ring run).nodes id).durable r.k r.clean
-    kept_in_log id s up false is = let z = ((held ring run lawful).nodes id).tailer is in ap (filter (λ (p : Pair). has_opid ((world ring run).nodes id).durable.log p.opid)) z.1 ∙ sym z.1

@@ -265,7 +265,7 @@ BodyFits ring (body.VoteReply reply) = reply.term < 2 ^ 62
 BodyFits ring (body.Append sent) = (sent.term < 2 ^ 62) × (list_all (entry_fits ring) sent.entries ≡ true)
 BodyFits ring (body.AppendReply answer) = answer.term < 2 ^ 62
 BodyFits ring (body.ProxyAppend sent) = sent.term < 2 ^ 62
-BodyFits ring (body.ClientWrite changes) = ⊥
+BodyFits ring (body.ClientWrite changes) = nat_lt 0 (length changes) ≡ true
 BodyFits ring _ = Unit {0}
 
 abbrev pub AllFit : Layout → List Message → Type 0

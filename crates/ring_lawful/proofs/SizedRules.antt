@@ -485,7 +485,7 @@ beat_keeps ring me d s x short = go (is_leader s.role)
 at_fits : (ring : Layout) (log : List Entry) (k : ℕ) (e : Entry) → list_all (entry_fits ring) log ≡ true → entry_at log k ≡ Some e → entry_fits ring e ≡ true
 at_fits ring log k e fit is = all_of (entry_fits ring) log e fit (at_contains log k e is)
 
-found_fits : (ring : Layout) (log : List Entry) (os : List Opid) → list_all (entry_fits ring) log ≡ true → list_all (entry_fits ring) (found log os) ≡ true
+pub found_fits : (ring : Layout) (log : List Entry) (os : List Opid) → list_all (entry_fits ring) log ≡ true → list_all (entry_fits ring) (found log os) ≡ true
 found_fits ring log [] fit = refl
 found_fits ring log (o ∷ os) fit = go (entry_at log o.position) refl (found_fits ring log os fit)
   where

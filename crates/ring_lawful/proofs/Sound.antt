@@ -31,7 +31,7 @@ use Rattle.ring_model.specs.declared.nodes.Transfer.TheVariants as transfer
 use Rattle.ring_model.specs.Actions.{all_done, done}
 use Rattle.ring_model.specs.Dispatch.{body_step, is_foreign, step}
 use Rattle.ring_model.specs.Elections.{elect}
-use Rattle.ring_model.specs.Nodes.{is_follower, is_leader, recover, stray_opids}
+use Rattle.ring_model.specs.Nodes.{IsSound, is_follower, is_leader, recover, stray_opids}
 use Rattle.ring_model.specs.Quorums.{is_listed}
 use Rattle.ring_model.specs.Runs.{IsRun, Move, is_whole_input, world}
 use Rattle.ring_model.specs.Steps.{idle, message, stepped}
@@ -40,7 +40,7 @@ use Rattle.ring_model.specs.Writes.{refused}
 use Rattle.ring_model.proofs.Dispatch.{IsGiven}
 use Rattle.ring_model.proofs.Lists.{all_of, both_true}
 use Rattle.ring_model.proofs.Runs.{reached}
-use Rattle.ring_lawful.specs.Lawful.{EveryNodeIsSound, EveryRunKeepsCandidatesShort}
+use Rattle.ring_lawful.specs.Lawful.{EveryNodeIsSound, EveryRunKeepsCandidatesShort, KeepsOrder, KeepsPairs}
 use Rattle.ring_lawful.proofs.Along.{Along, allowed_along, along_cut, along_end}
 use Rattle.ring_lawful.proofs.Carry.{Holds, IsKeptByAll, holds_always}
 use Rattle.ring_lawful.proofs.Order.{node_order}
@@ -50,7 +50,7 @@ use Rattle.ring_lawful.proofs.Sized.{AllFit, BodyFits, May, Sized, all_weaker, e
 use Rattle.ring_lawful.proofs.SizedRules.{IsShort, Keeps, answered_keeps, append_keeps, beat_keeps, elect_keeps, idle_keeps, quiet_keeps, relay_keeps, reply_keeps, request_keeps, rotate_keeps, write_keeps}
 
 -- ---- rules whose messages claim nothing
-transfer_keeps : (ring : Layout) (me client target : ℕ) (d : Durable) (s : Soft) → IsShort d s → Keeps ring d (ask_transfer ring me d s client target)
+pub transfer_keeps : (ring : Layout) (me client target : ℕ) (d : Durable) (s : Soft) → IsShort d s → Keeps ring d (ask_transfer ring me d s client target)
 unfolding ask_transfer
 transfer_keeps ring me client target d s short = go (transfer_refusal ring me s target)
   where
@@ -58,7 +58,7 @@ transfer_keeps ring me client target d s short = go (transfer_refusal ring me s 
     go (Some c) = quiet_keeps ring d s s [] _ short refl tt
     go None = quiet_keeps ring d s (record s { rounds = suc s.rounds; transfer = transfer.Mock target (suc s.rounds) client }) _ [] short refl (tt, tt)
 
-cancel_keeps : (ring : Layout) (client : ℕ) (d : Durable) (s : Soft) → IsShort d s → Keeps ring d (cancel s client)
+pub cancel_keeps : (ring : Layout) (client : ℕ) (d : Durable) (s : Soft) → IsShort d s → Keeps ring d (cancel s client)
 unfolding cancel
 cancel_keeps ring client d s short = go (is_off s.transfer)
   where
@@ -161,7 +161,7 @@ timeout_keeps ring me d s term x short = go (term == d.term && votes ring me && 
     go false = idle_keeps ring d s short
 
 -- ---- any input
-body_keeps : (ring : Layout) (me from : ℕ) (d : Durable) (s : Soft) (b : Body) → Sized ring d → IsShort d s → BodyFits ring b → Keeps ring d (body_step ring me d s from b)
+pub body_keeps : (ring : Layout) (me from : ℕ) (d : Durable) (s : Soft) (b : Body) → Sized ring d → IsShort d s → BodyFits ring b → Keeps ring d (body_step ring me d s from b)
 body_keeps ring me from d s (body.RequestVote asked) x short f = request_keeps ring me from asked d s x short f
 body_keeps ring me from d s (body.VoteReply reply) x short f = reply_keeps ring me from reply d s x short f
 body_keeps ring me from d s (body.Append sent) x short f = append_keeps ring me sent d s x short f.0 f.1
@@ -172,7 +172,7 @@ body_keeps ring me from d s (body.MockRequest sent) x short f = asked_keeps ring
 body_keeps ring me from d s (body.MockReply sent) x short f = mock_reply_keeps ring me from sent d s short
 body_keeps ring me from d s (body.MockResult sent) x short f = mock_result_keeps ring me sent d s short
 body_keeps ring me from d s (body.TimeoutNow term) x short f = timeout_keeps ring me d s term x short
-body_keeps ring me from d s (body.ClientWrite changes) x short f = absurd f
+body_keeps ring me from d s (body.ClientWrite changes) x short f = write_keeps ring me from changes d s f x short
 body_keeps ring me from d s body.ClientRotate x short f = rotate_keeps ring me from d s x short
 body_keeps ring me from d s (body.ClientTransfer target) x short f = transfer_keeps ring me from target d s short
 body_keeps ring me from d s body.ClientCancel x short f = cancel_keeps ring from d s short
@@ -241,13 +241,9 @@ short_log ring log placed fit = go (length log) refl
         near : (a b : ℕ) → nat_lt a (2 ^ 62) ≡ true → a ≡ b → b < 2 ^ 62
         near a b x y = grind (arith, nat_tests, x, y)
 
-pub every_node_is_sound : EveryNodeIsSound
-every_node_is_sound ring run lawful id =
-    let d : Durable = ((world ring run).nodes id).durable in
-    let x : Sized ring d = (sized_always ring run lawful).nodes id in
-    let r = reached ring run in
-    let o = node_order ring r.history id d (r.world.nodes id) in
-    let p = (every_node_keeps_pairs ring run lawful).0 id in
+-- a durable part that keeps its order, its limits and its pairs is sound
+pub sound_from : (ring : Layout) (id : ℕ) (d : Durable) → KeepsOrder d → Sized ring d → KeepsPairs ring id d → IsSound ring id d
+sound_from ring id d o x p =
     let f = x.files in
     let q = rotates_is d.log in
     record {
@@ -263,6 +259,12 @@ every_node_is_sound ring run lawful id =
       pairs_in_order = p.pairs_in_order;
       tailer = p.tailer;
     }
+
+pub every_node_is_sound : EveryNodeIsSound
+every_node_is_sound ring run lawful id =
+    let d : Durable = ((world ring run).nodes id).durable in
+    let r = reached ring run in
+    sound_from ring id d (node_order ring r.history id d (r.world.nodes id)) ((sized_always ring run lawful).nodes id) ((every_node_keeps_pairs ring run lawful).0 id)
 
 pub every_run_keeps_candidates_short : EveryRunKeepsCandidatesShort
 every_run_keeps_candidates_short ring run lawful id s up = (sized_always ring run lawful).running id s up

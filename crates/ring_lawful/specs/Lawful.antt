@@ -3,7 +3,10 @@ use Rattle.std.specs.Prelude.{◌≡◌, ℕ, ◌≤◌, ◌<◌, ◌+◌, ◌-�
 use Rattle.std.specs.List.{Contains}
 use Rattle.ring_types.specs.declared.entries.Entry.{Entry}
 use Rattle.ring_types.specs.Rings.{Layout, runs_engine}
+use Rattle.ring_types.specs.declared.values.Gtid.{Gtid}
+use Rattle.ring_types.specs.Gtids.{gtid_of}
 use Rattle.ring_types.specs.Logs.{entry_at, last, term_at}
+use Rattle.ring_types.specs.Rows.{is_valid}
 use Rattle.ring_model.specs.declared.nodes.Durable.{Durable}
 use Rattle.ring_model.specs.declared.nodes.Soft.{Soft}
 use Rattle.ring_model.specs.declared.nodes.Peer.{Peer}
@@ -16,7 +19,7 @@ use Rattle.ring_model.specs.declared.messages.Input.{Input}
 use Rattle.ring_model.specs.declared.messages.Input.TheVariants as input
 use Rattle.ring_model.specs.Actions.{ArePossible, pairs_in, entries_between}
 use Rattle.ring_model.specs.Nodes.{IsLawful, IsSound, ArePairsAbove, kept_pairs, is_ready}
-use Rattle.ring_model.specs.Safety.{Runs, PreparedAgrees}
+use Rattle.ring_model.specs.Safety.{Runs, PreparedAgrees, ChosenIsValid}
 
 -- ---- order
 -- the log's entries stand in their places, terms do not fall and are at most the node's, and what is applied is in the log
@@ -81,3 +84,14 @@ EveryPlanIsPossible = (ring : Layout) (run : List Move) → IsRun ring run
     → ((id : ℕ) (s : Soft) → Runs (world ring run) id s → (i : Input) → WasSent (world ring run).messages id i → is_whole_input i ≡ true
     → ArePossible ring.schema ((world ring run).nodes id).durable (step ring id ((world ring run).nodes id).durable s i).plan.actions)
     × ((id : ℕ) → ArePossible ring.schema ((world ring run).nodes id).durable (restart_actions ((world ring run).nodes id).durable))
+
+-- ---- valid
+-- the chosen sequence is valid and has no GTID twice
+abbrev pub EveryRunChoosesValid : Type 0
+EveryRunChoosesValid = (ring : Layout) (run : List Move) → IsRun ring run → ChosenIsValid ring (world ring run)
+
+-- and so is the log of each node, running or down, committed or not
+abbrev pub EveryLogIsValid : Type 0
+EveryLogIsValid = (ring : Layout) (run : List Move) → IsRun ring run → (id : ℕ)
+    → (is_valid ring.schema ((world ring run).nodes id).durable.log ≡ true)
+    × ((j k : ℕ) (d e : Entry) (g : Gtid) → entry_at ((world ring run).nodes id).durable.log j ≡ Some d → entry_at ((world ring run).nodes id).durable.log k ≡ Some e → gtid_of d ≡ Some g → gtid_of e ≡ Some g → j ≡ k)

@@ -7,4 +7,8 @@
 
 mod laws;
 
-pub use laws::{law_lawful, law_order, law_pairs, law_possible, law_prepared_agrees, law_sound};
+pub use laws::{
+    law_chosen_is_valid, law_every_run_is_safe, law_first_lawful, law_lawful, law_logs_are_valid,
+    law_messages, law_order, law_pairs, law_possible, law_prepared_agrees, law_recovery, law_sound,
+    law_step_lawful, law_step_possible, law_step_sends,
+};

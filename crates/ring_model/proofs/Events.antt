@@ -1,10 +1,11 @@
 -- Each event keeps the invariant: it makes at most one node act, whose step owes nothing, or it moves a cursor alone; and it holds just the elections that the definition finds.
-use Rattle.std.proofs.Common.{◌≡◌, ℕ, ◌<◌, ◌≤◌, [], ◌∷◌, ◌++◌, ◌∙◌, if◌then◌else◌, Bool, List, None, Option, Some, ap, append_assoc, arith, false, length, refl, subst, suc, sym, take, true, zero}
+use Rattle.std.proofs.Common.{◌≡◌, ◌⊎◌, inl, inr, ℕ, ◌<◌, ◌≤◌, [], ◌∷◌, ◌++◌, ◌∙◌, if◌then◌else◌, Bool, List, None, Option, Some, ap, append_assoc, arith, false, length, refl, subst, suc, sym, take, true, zero}
 use Rattle.std.proofs.lemmas.List.{append-nil}
 use Rattle.std.specs.List.{Contains}
 use Rattle.ring_types.specs.declared.entries.Entry.{Entry}
 use Rattle.ring_types.specs.Rings.{Layout, is_member}
 use Rattle.ring_types.specs.declared.entries.Opid.{Opid}
+use Rattle.ring_model.specs.declared.effects.Action.{Action}
 use Rattle.ring_model.specs.Safety.{Agree}
 use Rattle.ring_model.specs.Worlds.{ComeUp, Completion, Cut, GoDown, Handle, Task, Whole, WorldState, at_node, ended, first_world, given, handled, line_step, member_turn, message_at, moved, next_given, next_to, passed, restart_actions, skipped, turn, world_step}
 use Rattle.ring_model.specs.declared.nodes.Durable.{Durable}
@@ -29,6 +30,14 @@ use Rattle.ring_model.proofs.Dispatch.{IsGiven, step_row, step_whole}
 use Rattle.ring_model.proofs.Telling.{KeepsPending, step_tells}
 use Rattle.ring_model.proofs.Told.{HoldsTold, same_told, told_by_silence, told_by_step}
 
+-- the log of the acting node after some of its step's actions, or as it was where it went down or came up
+abbrev pub OnWay : Layout → WorldState → Option (ℕ × Task) → List Entry → Type 0
+OnWay ring w None l = ⊥
+OnWay ring w (Some (id, Handle i)) l =
+    (s : Soft) × ((w.nodes id).soft ≡ Some s) × IsGiven w.messages id i × ((n : ℕ) × (l ≡ (all_done (w.nodes id).durable (take n (step ring id (w.nodes id).durable s i).plan.actions)).log))
+OnWay ring w (Some (id, GoDown)) l = l ≡ (w.nodes id).durable.log
+OnWay ring w (Some (id, ComeUp)) l = l ≡ (w.nodes id).durable.log
+
 -- from a world with a history: the invariant holds after, nothing that was committed or led is lost, and these elections were held
 pub record Carried (ring : Layout) (w v : WorldState) (h : History) (held : List Election) (acted : Option (ℕ × Task)) : Type 0 where
   pub after : History
@@ -39,14 +48,26 @@ pub record Carried (ring : Layout) (w v : WorldState) (h : History) (held : List
   pub elections : after.elections ≡ h.elections ++ held
   pub grew : length w.chosen < length v.chosen → (id : ℕ) (task : Task) → acted ≡ Some (id, task) → IsLed after id (v.nodes id).durable.term
   pub told : HoldsTold ring w h → HoldsTold ring v after
+  pub books : (e : Election) → Contains after.elections e → (Contains h.elections e × (after.book e.term ≡ h.book e.term)) ⊎ OnWay ring w acted (after.book e.term)
+
+-- the same over more than one event
+pub record Joined (ring : Layout) (w v : WorldState) (h : History) (held : List Election) : Type 0 where
+  pub after : History
+  pub world : IsWorld ring v after
+  pub chosen : Agree (length w.chosen) w.chosen v.chosen
+  pub led : (e : Election) → Contains h.elections e → Contains after.elections e
+  pub sealed : (u c : ℕ) (l : List Entry) → IsSealed ring h u c l → IsSealed ring after u c l
+  pub elections : after.elections ≡ h.elections ++ held
+  pub told : HoldsTold ring w h → HoldsTold ring v after
 
 -- the node that acted
 abbrev actor : Option (ℕ × Task) → ℕ
 actor None = 0
 actor (Some a) = a.0
 
-by_turn : (ring : Layout) (w v : WorldState) (h : History) (id : ℕ) (task : Task) (held : List Election) (x : TurnedTo ring w v h id held) → (HoldsTold ring w h → HoldsTold ring v x.after) → Carried ring w v h held (Some (id, task))
-by_turn ring w v h id task held x told = record {
+by_turn : (ring : Layout) (w v : WorldState) (h : History) (id : ℕ) (task : Task) (held : List Election) (acts : List Action) (x : TurnedTo ring w v h id held acts) → (HoldsTold ring w h → HoldsTold ring v x.after)
+    → ((l : List Entry) (n : ℕ) → l ≡ (all_done (w.nodes id).durable (take n acts)).log → OnWay ring w (Some (id, task)) l) → Carried ring w v h held (Some (id, task))
+by_turn ring w v h id task held acts x told way = record {
   after = x.after;
   world = x.world;
   chosen = x.chosen;
@@ -55,17 +76,35 @@ by_turn ring w v h id task held x told = record {
   elections = x.elections;
   grew = λ more other t is. let same : id ≡ other = ap actor is in subst (λ (i : ℕ). IsLed x.after i (v.nodes i).durable.term) same (x.grew more);
   told = told;
+  books = λ e in_e. elim (x.books e in_e) [ inl old ↦ inl old | inr new ↦ inr (way (x.after.book e.term) new.0 new.1) ];
 }
 
-pub carried_join : (ring : Layout) (w v z : WorldState) (h : History) (a b : List Election) (acted next : Option (ℕ × Task)) (x : Carried ring w v h a acted) → Carried ring v z x.after b next → Carried ring w z h (a ++ b) None
-carried_join ring w v z h a b acted next x y = record {
+abbrev no_actions : List Action
+no_actions = []
+
+take_none : (n : ℕ) → take n no_actions ≡ no_actions
+take_none zero = refl
+take_none (suc n) = refl
+
+-- where nothing is done the log stays
+no_way : (d : Durable) (l : List Entry) (n : ℕ) → l ≡ (all_done d (take n [])).log → l ≡ d.log
+no_way d l n is = is ∙ ap (λ (actions : List Action). (all_done d actions).log) (take_none n)
+
+-- a beginning of a beginning is a beginning
+take_twice : (n p : ℕ) (actions : List Action) → (m : ℕ) × (take n (take p actions) ≡ take m actions)
+take_twice zero p actions = (0, refl)
+take_twice (suc n) zero actions = (0, refl)
+take_twice (suc n) (suc p) [] = (0, refl)
+take_twice (suc n) (suc p) (a ∷ actions) = let x = take_twice n p actions in (suc x.0, ap (λ (rest : List Action). a ∷ rest) x.1)
+
+pub carried_join : (ring : Layout) (w v z : WorldState) (h : History) (a b : List Election) (acted : Option (ℕ × Task)) (x : Carried ring w v h a acted) → Joined ring v z x.after b → Joined ring w z h (a ++ b)
+carried_join ring w v z h a b acted x y = record {
   after = y.after;
   world = y.world;
   chosen = agree_trans (length w.chosen) w.chosen v.chosen z.chosen x.chosen (agree_less (length w.chosen) (length v.chosen) v.chosen z.chosen x.chosen.right y.chosen);
   led = λ e in_e. y.led e (x.led e in_e);
   sealed = λ u c l q. y.sealed u c l (x.sealed u c l q);
   elections = y.elections ∙ (ap (λ (e : List Election). e ++ b) x.elections ∙ append_assoc h.elections a b);
-  grew = λ more id task bad. absurd cc;
   told = λ t. y.told (x.told t);
 }
 
@@ -91,6 +130,7 @@ passed_over ring w h acted k = record {
   elections = sym (append-nil h.elections);
   grew = λ more id task is. absurd (omega arith);
   told = same_told ring w (passed w) h refl refl;
+  books = λ e in_e. inl (in_e, refl);
 }
 
 -- ---- what a task does
@@ -111,13 +151,15 @@ handled_over ring w h id i Whole (Some s) up k given =
     let d = (w.nodes id).durable in
     let st = step ring id d s i in
     let x = whole_keeps ring w h id s st k (step_row ring h id d s i k.history (k.nodes id) (k.running id s up) (subst (λ (ms : List Message). IsGiven ms id i) (sym k.messages) given)) in
-    by_turn ring w (ended w id d st Whole) h id (Handle i) (held_by id d s st Whole) x (λ t. told_by_step ring w h id st (held_by id d s st Whole) x (step_tells ring id d s i (t.pending id s up)) t)
+    by_turn ring w (ended w id d st Whole) h id (Handle i) (held_by id d s st Whole) st.plan.actions x (λ t. told_by_step ring w h id st (held_by id d s st Whole) st.plan.actions x (step_tells ring id d s i (t.pending id s up)) t)
+    (λ l n is. (s, up, given, (n, is)))
 handled_over ring w h id i (Cut count) (Some s) up k given =
     let d = (w.nodes id).durable in
     let st = step ring id d s i in
     let x = cut_keeps ring w h id count s st k (step_row ring h id d s i k.history (k.nodes id) (k.running id s up) (subst (λ (ms : List Message). IsGiven ms id i) (sym k.messages) given)) in
-    by_turn ring w (ended w id d st (Cut count)) h id (Handle i) (held_by id d s st (Cut count)) x
-    (told_by_silence ring w h id (record { durable = all_done d (take count st.plan.actions); soft = None }) (count ∷ []) (held_by id d s st (Cut count)) x (λ o so. absurd cc))
+    by_turn ring w (ended w id d st (Cut count)) h id (Handle i) (held_by id d s st (Cut count)) (take count st.plan.actions) x
+    (told_by_silence ring w h id (record { durable = all_done d (take count st.plan.actions); soft = None }) (count ∷ []) (held_by id d s st (Cut count)) (take count st.plan.actions) x (λ o so. absurd cc))
+    (λ l n is. let y = take_twice n count st.plan.actions in (s, up, given, (y.0, is ∙ ap (λ (actions : List Action). (all_done d actions).log) y.1)))
 
 -- a message that a task gives was sent, and to this node
 abbrev pub MayTake : List Message → ℕ → Task → Type 0
@@ -139,18 +181,18 @@ turn_over ring w h id (Handle i) completion k given = handled_over ring w h id i
 turn_over ring w h id GoDown completion k given =
     let x = down_keeps ring w h id (w.nodes id).durable [] (record { term = refl; votes = refl; log = refl; applied = refl }) k in
     subst (λ (e : List Election). Carried ring w (turn ring w id GoDown completion) h e (Some (id, GoDown))) (sym (down_holds_none ring id (w.nodes id).durable (w.nodes id).soft completion))
-    (by_turn ring w (turn ring w id GoDown completion) h id GoDown [] x (told_by_silence ring w h id (record { durable = (w.nodes id).durable; soft = None }) [] [] x (λ o so. absurd cc)))
+    (by_turn ring w (turn ring w id GoDown completion) h id GoDown [] [] x (told_by_silence ring w h id (record { durable = (w.nodes id).durable; soft = None }) [] [] [] x (λ o so. absurd cc)) (no_way (w.nodes id).durable))
 turn_over ring w h id ComeUp Whole k given =
     let x = restart_keeps ring w h id k in
     subst (λ (e : List Election). Carried ring w (turn ring w id ComeUp Whole) h e (Some (id, ComeUp))) (sym (up_holds_none ring id (w.nodes id).durable (w.nodes id).soft Whole))
-    (by_turn ring w (turn ring w id ComeUp Whole) h id ComeUp [] x
-    (told_by_silence ring w h id (record { durable = recover (w.nodes id).durable; soft = Some (fresh_soft (w.nodes id).durable) }) [] [] x
-    (λ o so. let is : fresh_soft (w.nodes id).durable ≡ o = cc in ap (λ (s : Soft). s.pending) (sym is))))
+    (by_turn ring w (turn ring w id ComeUp Whole) h id ComeUp [] [] x
+    (told_by_silence ring w h id (record { durable = recover (w.nodes id).durable; soft = Some (fresh_soft (w.nodes id).durable) }) [] [] [] x
+    (λ o so. let is : fresh_soft (w.nodes id).durable ≡ o = cc in ap (λ (s : Soft). s.pending) (sym is))) (no_way (w.nodes id).durable))
 turn_over ring w h id ComeUp (Cut count) k given =
     let e : Durable = all_done (w.nodes id).durable (take count (restart_actions (w.nodes id).durable)) in
     let x = down_keeps ring w h id e (count ∷ []) (restart_cut (w.nodes id).durable count) k in
     subst (λ (e : List Election). Carried ring w (turn ring w id ComeUp (Cut count)) h e (Some (id, ComeUp))) (sym (up_holds_none ring id (w.nodes id).durable (w.nodes id).soft (Cut count)))
-    (by_turn ring w (turn ring w id ComeUp (Cut count)) h id ComeUp [] x (told_by_silence ring w h id (record { durable = e; soft = None }) (count ∷ []) [] x (λ o so. absurd cc)))
+    (by_turn ring w (turn ring w id ComeUp (Cut count)) h id ComeUp [] [] x (told_by_silence ring w h id (record { durable = e; soft = None }) (count ∷ []) [] [] x (λ o so. absurd cc)) (no_way (w.nodes id).durable))
 
 -- only members act
 member_over : (ring : Layout) (w : WorldState) (h : History) (id : ℕ) (task : Task) (completion : Completion) → IsWorld ring w h → MayTake w.messages id task
@@ -173,9 +215,15 @@ given_over : (ring : Layout) (w : WorldState) (h : History) (completion : Comple
 given_over ring w h completion number None is k = passed_over ring w h None k
 given_over ring w h completion number (Some m) is k = member_over ring w h m.to (Handle (input.Deliver m)) completion k (in_number w.messages number m is, refl)
 
+moved_way : (ring : Layout) (w : WorldState) (id number : ℕ) (acted : Option (ℕ × Task)) (l : List Entry) → OnWay ring (moved w id number) acted l → OnWay ring w acted l
+moved_way ring w id number None l x = x
+moved_way ring w id number (Some (j, Handle i)) l x = x
+moved_way ring w id number (Some (j, GoDown)) l x = x
+moved_way ring w id number (Some (j, ComeUp)) l x = x
+
 -- a moved cursor changes nothing that is said of a world
 from_moved : (ring : Layout) (w z : WorldState) (h : History) (id number : ℕ) (held : List Election) (acted : Option (ℕ × Task)) → Carried ring (moved w id number) z h held acted → Carried ring w z h held acted
-from_moved ring w z h id number held acted x = record { after = x.after; world = x.world; chosen = x.chosen; led = x.led; sealed = x.sealed; elections = x.elections; grew = x.grew; told = λ t. x.told (same_told ring w (moved w id number) h refl refl t) }
+from_moved ring w z h id number held acted x = record { books = λ e in_e. elim (x.books e in_e) [ inl old ↦ inl old | inr new ↦ inr (moved_way ring w id number acted (x.after.book e.term) new) ]; after = x.after; world = x.world; chosen = x.chosen; led = x.led; sealed = x.sealed; elections = x.elections; grew = x.grew; told = λ t. x.told (same_told ring w (moved w id number) h refl refl t) }
 
 acts_same : (ring : Layout) (w : WorldState) (id number : ℕ) (completion : Completion) (o : Option (ℕ × Task)) → acted_elections ring (moved w id number) completion o ≡ acted_elections ring w completion o
 acts_same ring w id number completion None = refl

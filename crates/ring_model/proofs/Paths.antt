@@ -1,7 +1,8 @@
 -- A step's actions as guarded moves, each of which keeps the invariant; so each beginning of them does, and only a winning move holds an election.
-use Rattle.std.proofs.Common.{◌⊎◌, ◌≡◌, ℕ, ◌<◌, ◌≤◌, [], ◌∷◌, ◌++◌, ◌∙◌, List, ap, append_assoc, arith, inl, inr, length, refl, subst, suc, sym, take, zero}
+use Rattle.std.proofs.Common.{◌⊎◌, ◌≡◌, ◌==◌, Bool, true, false, ℕ, ◌<◌, ◌≤◌, [], ◌∷◌, ◌++◌, ◌∙◌, List, ap, append_assoc, arith, inl, inr, length, refl, subst, suc, sym, take, zero}
 use Rattle.std.proofs.lemmas.List.{append-nil}
-use Rattle.std.proofs.lemmas.List.Elements.{Contains-append_left}
+use Rattle.std.proofs.lemmas.Bool.Decides.{nat_tests}
+use Rattle.std.proofs.lemmas.List.Elements.{Contains-append_cases, Contains-append_left}
 use Rattle.std.specs.List.{Contains}
 use Rattle.ring_types.specs.declared.entries.Entry.{Entry}
 use Rattle.ring_types.specs.declared.entries.Grant.{Grant}
@@ -20,6 +21,10 @@ use Rattle.ring_model.proofs.Casting.{MayVote, cast_grows, cast_keeps_history, c
 use Rattle.ring_model.proofs.Following.{IsFollowed, agree_same, follow_keeps}
 use Rattle.ring_model.proofs.Leading.{MayAdd, MayLead, added_grows, added_history, added_node, led_grows, led_history, led_node, with_book, with_election}
 use Rattle.ring_model.proofs.Sending.{apply_keeps}
+
+only_one : (f e : Election) → Contains (f ∷ []) e → f ≡ e
+only_one f e (zero, lt, is) = cc
+only_one f e (suc k, lt, is) = absurd (omega (arith, lt))
 
 -- the two parts of a node that the ring's safety does not look at may differ
 pub record SameLog (d e : Durable) : Type 0 where
@@ -182,6 +187,47 @@ path_messages ring id h g d (a ∷ rest) (Goes_on {g = m} move path) = path_mess
 pub path_chosen : (ring : Layout) (id : ℕ) (h g : History) (d : Durable) (steps : List Action) → Path ring id h d steps g → g.chosen ≡ h.chosen
 path_chosen ring id h g d [] Ends = refl
 path_chosen ring id h g d (a ∷ rest) (Goes_on {g = m} move path) = path_chosen ring id m g (done d a) rest path ∙ (guarded_still ring id h m d a move).1
+
+-- ---- books on the way
+-- the book of each led term is as it was, or the node's log after some of the actions
+abbrev pub BooksGo : History → History → Durable → List Action → Type 0
+BooksGo h g d steps = (e : Election) → Contains g.elections e → (Contains h.elections e × (g.book e.term ≡ h.book e.term)) ⊎ ((n : ℕ) × (g.book e.term ≡ (all_done d (take n steps)).log))
+
+abbrev pub BookGoes : History → History → List Entry → Election → Type 0
+BookGoes h g l e = (Contains h.elections e × (g.book e.term ≡ h.book e.term)) ⊎ (g.book e.term ≡ l)
+
+book_stays : (h g : History) (l : List Entry) → g ≡ h → (e : Election) → Contains g.elections e → BookGoes h g l e
+book_stays h g l same e in_e = inl (subst (λ (w : History). Contains w.elections e) same in_e, ap (λ (w : History). w.book e.term) same)
+
+pub guarded_books : (ring : Layout) (id : ℕ) (h g : History) (d : Durable) (a : Action) → Guarded ring id h d a g → (e : Election) → Contains g.elections e → BookGoes h g (done d a).log e
+guarded_books ring id h g d a (Leads f x is may same) e in_e =
+    subst (λ (w : History). BookGoes h w (done d a).log e) (sym same) (subst (λ (b : Action). BookGoes h (with_election h f (d.log ++ x ∷ [])) (done d b).log e) (sym is)
+    (go (e.term == f.term) refl (Contains-append_cases h.elections (f ∷ []) e (subst (λ (w : History). Contains w.elections e) same in_e))))
+  where
+    go : (b : Bool) → (e.term == f.term) ≡ b → Contains h.elections e ⊎ Contains (f ∷ []) e → BookGoes h (with_election h f (d.log ++ x ∷ [])) (d.log ++ x ∷ []) e
+    go true y c = inr (rw y refl)
+    go false y (inl old) = inl (old, rw y refl)
+    go false y (inr new) = absurd (let z : f ≡ e = only_one f e new in let u : e.term ≡ f.term = ap (λ (w : Election). w.term) (sym z) in let v : (e.term == f.term) ≡ true = grind (arith, nat_tests, u) in let q : true ≡ false = sym v ∙ y in cc)
+guarded_books ring id h g d a (Adds f x is may same) e in_e =
+    subst (λ (w : History). BookGoes h w (done d a).log e) (sym same) (subst (λ (b : Action). BookGoes h (with_book h d.term (d.log ++ x ∷ [])) (done d b).log e) (sym is)
+    (go (e.term == d.term) refl (subst (λ (w : History). Contains w.elections e) same in_e)))
+  where
+    go : (b : Bool) → (e.term == d.term) ≡ b → Contains h.elections e → BookGoes h (with_book h d.term (d.log ++ x ∷ [])) (d.log ++ x ∷ []) e
+    go true y c = inr (rw y refl)
+    go false y c = inl (c, rw y refl)
+guarded_books ring id h g d a (Raises t is up low same) e in_e = book_stays h g (done d a).log same e in_e
+guarded_books ring id h g d a (Votes c floor is may same) e in_e = inl (subst (λ (w : History). Contains w.elections e) same in_e, ap (λ (w : History). w.book e.term) same)
+guarded_books ring id h g d a (Cuts p is may same) e in_e = book_stays h g (done d a).log same e in_e
+guarded_books ring id h g d a (Extends es is may same) e in_e = book_stays h g (done d a).log same e in_e
+guarded_books ring id h g d a (Applies p is s may same) e in_e = book_stays h g (done d a).log same e in_e
+guarded_books ring id h g d a (Engine s same) e in_e = book_stays h g (done d a).log same e in_e
+
+pub path_books : (ring : Layout) (id : ℕ) (h g : History) (d : Durable) (steps : List Action) → Path ring id h d steps g → BooksGo h g d steps
+path_books ring id h g d [] Ends e in_e = inl (in_e, refl)
+path_books ring id h g d (a ∷ rest) (Goes_on {g = m} move path) e in_e = elim (path_books ring id m g (done d a) rest path e in_e) [
+  | inl old ↦ elim (guarded_books ring id h m d a move e old.0) [ inl before ↦ inl (before.0, old.1 ∙ before.1) | inr new ↦ inr (1, old.1 ∙ new) ]
+  | inr new ↦ inr (suc new.0, new.1)
+]
 
 -- ---- elections on the way
 -- the election that a move holds

@@ -1,6 +1,6 @@
 -- Every run of every ring is safe, and each leader's region is covered by the later elections: the invariant holds in the first world and each event keeps it.
 use Rattle.std.specs.Prelude.{slice_get}
-use Rattle.std.proofs.Common.{◌≡◌, ℕ, ◌<◌, [], ◌∷◌, ◌++◌, ◌∙◌, List, None, Some, ap, append_assoc, arith, length, refl, subst, sym}
+use Rattle.std.proofs.Common.{◌≡◌, ℕ, ◌<◌, [], ◌∷◌, ◌++◌, ◌∙◌, List, Some, ap, append_assoc, arith, length, refl, subst, sym}
 use Rattle.std.proofs.lemmas.List.{append-nil}
 use Rattle.std.specs.List.{Contains}
 use Rattle.ring_types.specs.declared.entries.Entry.{Entry}
@@ -15,9 +15,9 @@ use Rattle.ring_model.proofs.Cover.{is_election, leaders_covered}
 use Rattle.ring_model.proofs.Following.{agree_same, log_match}
 use Rattle.ring_model.proofs.Turns.{IsWorld, in_chosen}
 use Rattle.ring_model.proofs.Told.{leader_in, sealed_in_book, told_stands}
-use Rattle.ring_model.proofs.Events.{Carried, carried_join, event_over, first_history, first_holds, first_told, line_whole}
+use Rattle.ring_model.proofs.Events.{Joined, carried_join, event_over, first_history, first_holds, first_told, line_whole}
 
-pub run_over : (ring : Layout) (w : WorldState) (h : History) (run : List Move) → IsWorld ring w h → Carried ring w (world_from ring w run) h (elections_from ring w run) None
+pub run_over : (ring : Layout) (w : WorldState) (h : History) (run : List Move) → IsWorld ring w h → Joined ring w (world_from ring w run) h (elections_from ring w run)
 run_over ring w h [] k = record {
   after = h;
   world = k;
@@ -25,12 +25,11 @@ run_over ring w h [] k = record {
   led = λ e in_e. in_e;
   sealed = λ u c l x. x;
   elections = sym (append-nil h.elections);
-  grew = λ more id task bad. absurd cc;
   told = λ t. t;
 }
 run_over ring w h (m ∷ run) k =
     let x = event_over ring w h m k in
-    carried_join ring w (world_step ring w m.event m.completion) (world_from ring (world_step ring w m.event m.completion) run) h (event_elections ring w m) (elections_from ring (world_step ring w m.event m.completion) run) (acting w m.event.what) None x
+    carried_join ring w (world_step ring w m.event m.completion) (world_from ring (world_step ring w m.event m.completion) run) h (event_elections ring w m) (elections_from ring (world_step ring w m.event m.completion) run) (acting w m.event.what) x
     (run_over ring (world_step ring w m.event m.completion) x.after run x.world)
 
 world_join : (ring : Layout) (w : WorldState) (before after : List Move) → world_from ring w (before ++ after) ≡ world_from ring (world_from ring w before) after

@@ -8,6 +8,7 @@ use Rattle.ring_types.specs.declared.values.Gtid.{Gtid}
 use Rattle.ring_types.specs.Rings.{Layout}
 use Rattle.ring_types.specs.declared.entries.Opid.{Opid}
 use Rattle.ring_types.specs.Logs.{entry_at}
+use Rattle.ring_model.specs.declared.effects.Action.{Action}
 use Rattle.ring_model.specs.Safety.{Agree, Leads, ToldStands}
 use Rattle.ring_model.specs.declared.nodes.Role.TheVariants.{Candidate, Follower, Leader}
 use Rattle.ring_model.specs.declared.nodes.Durable.{Durable}
@@ -85,11 +86,11 @@ telling_holds ring w h id s gtid opid term k up may =
     leader_role h id d s Candidate is leads x = absurd (let z : false ≡ true = sym (ap is_leader is) ∙ leads in cc)
     leader_role h id d s Leader is leads x = x
 
-pub told_by_turn : (ring : Layout) (w : WorldState) (h : History) (id : ℕ) (n : Node) (ms : List Message) (says : List Say) (cuts : List ℕ) (held : List Election) (x : TurnedTo ring w (turned w id n ms says cuts) h id held)
+pub told_by_turn : (ring : Layout) (w : WorldState) (h : History) (id : ℕ) (n : Node) (ms : List Message) (says : List Say) (cuts : List ℕ) (held : List Election) (acts : List Action) (x : TurnedTo ring w (turned w id n ms says cuts) h id held acts)
     → ((s : Soft) → n.soft ≡ Some s → KeepsPending n.durable.log s)
     → ((y : Say) → Contains says y → (gtid : Gtid) (opid : Opid) (term : ℕ) → y.what ≡ what.Committed gtid opid term → (s : Soft) × (n.soft ≡ Some s) × MayTell n.durable s gtid opid term)
     → HoldsTold ring w h → HoldsTold ring (turned w id n ms says cuts) x.after
-told_by_turn ring w h id n ms says cuts held x waits tells t = record {
+told_by_turn ring w h id n ms says cuts held acts x waits tells t = record {
   pending = λ j s up. elim (cases_eq j id) [
     | inl same ↦
         let up' : (with_node w.nodes id n id).soft ≡ Some s = subst (λ (i : ℕ). (with_node w.nodes id n i).soft ≡ Some s) same up in
@@ -111,18 +112,18 @@ told_by_turn ring w h id n ms says cuts held x waits tells t = record {
 }
 
 -- a step that went to its end
-pub told_by_step : (ring : Layout) (w : WorldState) (h : History) (id : ℕ) (st : Step) (held : List Election) (x : TurnedTo ring w (ended w id (w.nodes id).durable st Whole) h id held) → Tells (w.nodes id).durable st
+pub told_by_step : (ring : Layout) (w : WorldState) (h : History) (id : ℕ) (st : Step) (held : List Election) (acts : List Action) (x : TurnedTo ring w (ended w id (w.nodes id).durable st Whole) h id held acts) → Tells (w.nodes id).durable st
     → HoldsTold ring w h → HoldsTold ring (ended w id (w.nodes id).durable st Whole) x.after
-told_by_step ring w h id st held x tells t =
-    told_by_turn ring w h id (record { durable = all_done (w.nodes id).durable st.plan.actions; soft = Some st.soft }) st.plan.messages st.plan.says [] held x
+told_by_step ring w h id st held acts x tells t =
+    told_by_turn ring w h id (record { durable = all_done (w.nodes id).durable st.plan.actions; soft = Some st.soft }) st.plan.messages st.plan.says [] held acts x
     (λ s so. let is : st.soft ≡ s = cc in subst (λ (o : Soft). KeepsPending (all_done (w.nodes id).durable st.plan.actions).log o) is tells.pending)
     (λ y in_y gtid opid term is. (st.soft, refl, tells.says y in_y gtid opid term is)) t
 
 -- a node that goes down, or comes up, says nothing, and nothing waits
-pub told_by_silence : (ring : Layout) (w : WorldState) (h : History) (id : ℕ) (n : Node) (cuts : List ℕ) (held : List Election) (x : TurnedTo ring w (turned w id n [] [] cuts) h id held)
+pub told_by_silence : (ring : Layout) (w : WorldState) (h : History) (id : ℕ) (n : Node) (cuts : List ℕ) (held : List Election) (acts : List Action) (x : TurnedTo ring w (turned w id n [] [] cuts) h id held acts)
     → ((s : Soft) → n.soft ≡ Some s → s.pending ≡ []) → HoldsTold ring w h → HoldsTold ring (turned w id n [] [] cuts) x.after
-told_by_silence ring w h id n cuts held x none t =
-    told_by_turn ring w h id n [] [] cuts held x
+told_by_silence ring w h id n cuts held acts x none t =
+    told_by_turn ring w h id n [] [] cuts held acts x
     (λ s so. record { none = λ is. none s so; each = λ p in_p. absurd (none_contained p (subst (λ (ps : List Pending). Contains ps p) (none s so) in_p)) })
     (λ y in_y. absurd (none_contained y in_y)) t
 

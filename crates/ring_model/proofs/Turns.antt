@@ -24,7 +24,7 @@ use Rattle.ring_model.proofs.Invariant.{As_leader, By_reply, HasAcked, HasRole, 
 use Rattle.ring_model.proofs.Growth.{Grows, agree_sym, agree_trans, candidate_stays, cast_stays, chosen_stays, grow_log, grow_sealed, leader_stays, others_stay, sent_stays, won_stays}
 use Rattle.ring_model.proofs.Following.{agree_same, agree_take}
 use Rattle.ring_model.proofs.Sending.{MayAnswer, sealed_agree, sent_grows, sent_history, sent_node, with_message}
-use Rattle.ring_model.proofs.Paths.{IsHeld, IsLed, MayReach, Path, SameLog, elected, grows_refl, grows_trans, held_cut, held_whole, path_chosen, path_cut, path_elections, path_keeps, path_messages, path_reaches, quiet_cut, reach_on, same_node}
+use Rattle.ring_model.proofs.Paths.{BooksGo, IsHeld, IsLed, MayReach, Path, SameLog, elected, grows_refl, grows_trans, held_cut, held_whole, path_books, path_chosen, path_cut, path_elections, path_keeps, path_messages, path_reaches, quiet_cut, reach_on, same_node}
 
 -- the history is the world's
 pub record IsWorld (ring : Layout) (w : WorldState) (h : History) : Type 0 where
@@ -162,7 +162,7 @@ reach_up : (n : Node) (s : Soft) → n.soft ≡ Some s → reach n ≡ s.commit
 reach_up n s so = rw (so, reach) refl
 
 -- what a turn of a node leaves, before the chosen list grows
-pub record IsTurn (ring : Layout) (w : WorldState) (h : History) (id : ℕ) (n : Node) (ms : List Message) (held : List Election) : Type 0 where
+pub record IsTurn (ring : Layout) (w : WorldState) (h : History) (id : ℕ) (n : Node) (ms : List Message) (held : List Election) (acts : List Action) : Type 0 where
   pub after : History
   pub history : IsHistory ring after
   pub node : IsNode ring after id n.durable
@@ -175,15 +175,17 @@ pub record IsTurn (ring : Layout) (w : WorldState) (h : History) (id : ℕ) (n :
   pub inside : reach n ≤ length n.durable.log
   pub applied : n.durable.applied ≤ reach n
   pub role : (s : Soft) → n.soft ≡ Some s → HasRole after id n.durable s s.role
+  pub books : BooksGo h after (w.nodes id).durable acts
 
 -- what a turn comes to: the invariant of the new world, and the chosen list as it was or longer
-pub record TurnedTo (ring : Layout) (w v : WorldState) (h : History) (id : ℕ) (held : List Election) : Type 0 where
+pub record TurnedTo (ring : Layout) (w v : WorldState) (h : History) (id : ℕ) (held : List Election) (acts : List Action) : Type 0 where
   pub after : History
   pub world : IsWorld ring v after
   pub grows : Grows id h after
   pub chosen : Agree (length w.chosen) w.chosen v.chosen
   pub elections : after.elections ≡ h.elections ++ held
   pub grew : length w.chosen < length v.chosen → IsLed after id (v.nodes id).durable.term
+  pub books : BooksGo h after (w.nodes id).durable acts
 
 -- where the chosen sequence grew the node led its term
 grown_led : (h : History) (id : ℕ) (n : Node) (c : List Entry) → h.chosen ≡ c → MayReach h id n.durable.term (reach n) → length c < length (grown c n) → IsLed h id n.durable.term
@@ -201,8 +203,8 @@ grow_agrees ring h u n k le x = go (nat_lt (length h.chosen) (reach n)) refl
     go true is = rw is (chosen_only_grows ring h u (reach n) n.durable.log k le x (let lt : length h.chosen < reach n = grind (arith, nat_tests, is) in omega arith))
     go false is = rw is (agree_same (length h.chosen) h.chosen (omega arith))
 
-pub turn_keeps : (ring : Layout) (w : WorldState) (h : History) (id : ℕ) (n : Node) (ms : List Message) (says : List Say) (cuts : List ℕ) (held : List Election) → IsWorld ring w h → IsTurn ring w h id n ms held → TurnedTo ring w (turned w id n ms says cuts) h id held
-turn_keeps ring w h id n ms says cuts held k t =
+pub turn_keeps : (ring : Layout) (w : WorldState) (h : History) (id : ℕ) (n : Node) (ms : List Message) (says : List Say) (cuts : List ℕ) (held : List Election) (acts : List Action) → IsWorld ring w h → IsTurn ring w h id n ms held acts → TurnedTo ring w (turned w id n ms says cuts) h id held acts
+turn_keeps ring w h id n ms says cuts held acts k t =
     let x = t.after in
     let l = grown x.chosen n in
     let long = grow_length x.chosen n t.inside in
@@ -242,6 +244,7 @@ turn_keeps ring w h id n ms says cuts held k t =
       };
       grows = all;
       elections = t.elections;
+      books = t.books;
       grew = λ more. subst (λ (m : Node). IsLed (with_chosen x l) id m.durable.term) (sym (node_here w.nodes id n)) (grown_led x id n w.chosen is t.reaches more);
       chosen = subst (λ (c : List Entry). Agree (length c) c (grown c n)) is (grow_agrees ring x n.durable.term n t.history t.inside t.reached);
     }
@@ -281,14 +284,25 @@ held_in_whole ring id h g d s st path (Leads_not led none) = none ∙ sym (go (i
     go false is = rw (is, led) refl
 held_in_whole ring id h g d s st path (Leads_now was is held) = held_whole ring id h g d st.plan.actions st.soft.grants path held ∙ sym (rw (was, is) refl)
 
+-- sending leaves the books
+sends_books : (ring : Layout) (id : ℕ) (d : Durable) (h g : History) (ms : List Message) → Sends ring id d h ms g → (t : ℕ) → g.book t ≡ h.book t
+sends_books ring id d h g [] Sent_all t = refl
+sends_books ring id d h g (m ∷ ms) (Sends_on sends may rest) t = sends_books ring id d (with_message h m) g ms rest t
+
+same_books : (h g f : History) (d : Durable) (steps : List Action) → ((t : ℕ) → f.book t ≡ g.book t) → f.elections ≡ g.elections → BooksGo h g d steps → BooksGo h f d steps
+same_books h g f d steps book held x e in_e = elim (x e (subst (λ (l : List Election). Contains l e) held in_e)) [
+  | inl old ↦ inl (old.0, book e.term ∙ old.1)
+  | inr new ↦ inr (new.0, book e.term ∙ new.1)
+]
+
 -- ---- a whole step
 pub whole_keeps : (ring : Layout) (w : WorldState) (h : History) (id : ℕ) (s : Soft) (st : Step) → IsWorld ring w h → IsRow ring h id (w.nodes id).durable s st
-    → TurnedTo ring w (ended w id (w.nodes id).durable st Whole) h id (held_by id (w.nodes id).durable s st Whole)
+    → TurnedTo ring w (ended w id (w.nodes id).durable st Whole) h id (held_by id (w.nodes id).durable s st Whole) st.plan.actions
 whole_keeps ring w h id s st k row =
     let d = (w.nodes id).durable in
     let p = path_keeps ring id h row.acted d st.plan.actions k.history (k.nodes id) row.path in
     let q = sends_hold ring id (all_done d st.plan.actions) row.acted row.sent st.plan.messages p.history p.node row.sends in
-    turn_keeps ring w h id (record { durable = all_done d st.plan.actions; soft = Some st.soft }) st.plan.messages st.plan.says [] (held_by id d s st Whole) k (record {
+    turn_keeps ring w h id (record { durable = all_done d st.plan.actions; soft = Some st.soft }) st.plan.messages st.plan.says [] (held_by id d s st Whole) st.plan.actions k (record {
       after = row.sent;
       history = q.0;
       node = q.1;
@@ -300,17 +314,19 @@ whole_keeps ring w h id s st k row =
       reached = row.sealed;
       inside = seal_within ring row.sent (all_done d st.plan.actions).term st.soft.commit (all_done d st.plan.actions).log row.sealed;
       applied = row.applied;
+      books = same_books h row.acted row.sent d st.plan.actions (sends_books ring id (all_done d st.plan.actions) row.acted row.sent st.plan.messages row.sends) q.5 (path_books ring id h row.acted d st.plan.actions row.path);
       role = λ o so. let is : st.soft ≡ o = cc in subst (λ (x : Soft). HasRole row.sent id (all_done d st.plan.actions) x x.role) is row.role;
     })
 
 -- a cut step: the first of the actions, and the node is down
 pub cut_keeps : (ring : Layout) (w : WorldState) (h : History) (id count : ℕ) (s : Soft) (st : Step) → IsWorld ring w h → IsRow ring h id (w.nodes id).durable s st
-    → TurnedTo ring w (ended w id (w.nodes id).durable st (Cut count)) h id (held_by id (w.nodes id).durable s st (Cut count))
+    → TurnedTo ring w (ended w id (w.nodes id).durable st (Cut count)) h id (held_by id (w.nodes id).durable s st (Cut count)) (take count st.plan.actions)
 cut_keeps ring w h id count s st k row =
     let d = (w.nodes id).durable in
     let c = path_cut ring id h row.acted d st.plan.actions count row.path in
     let p = path_keeps ring id h c.0 d (take count st.plan.actions) k.history (k.nodes id) c.1 in
-    turn_keeps ring w h id (record { durable = all_done d (take count st.plan.actions); soft = None }) [] [] (count ∷ []) (held_by id d s st (Cut count)) k (record {
+    turn_keeps ring w h id (record { durable = all_done d (take count st.plan.actions); soft = None }) [] [] (count ∷ []) (held_by id d s st (Cut count)) (take count st.plan.actions) k (record {
+      books = path_books ring id h c.0 d (take count st.plan.actions) c.1;
       after = c.0;
       history = p.history;
       node = p.node;
@@ -327,10 +343,11 @@ cut_keeps ring w h id count s st k row =
 
 -- a node that goes down, with its prepared pairs as they were or fewer
 pub down_keeps : (ring : Layout) (w : WorldState) (h : History) (id : ℕ) (e : Durable) (cuts : List ℕ) → SameLog (w.nodes id).durable e → IsWorld ring w h
-    → TurnedTo ring w (turned w id (record { durable = e; soft = None }) [] [] cuts) h id []
+    → TurnedTo ring w (turned w id (record { durable = e; soft = None }) [] [] cuts) h id [] []
 down_keeps ring w h id e cuts same k =
     let n = same_node ring h id (w.nodes id).durable e same (k.nodes id) in
-    turn_keeps ring w h id (record { durable = e; soft = None }) [] [] cuts [] k (record {
+    turn_keeps ring w h id (record { durable = e; soft = None }) [] [] cuts [] [] k (record {
+      books = λ e in_e. inl (in_e, refl);
       after = h;
       history = k.history;
       node = n;
@@ -347,11 +364,12 @@ down_keeps ring w h id e cuts same k =
 
 -- a restart
 pub restart_keeps : (ring : Layout) (w : WorldState) (h : History) (id : ℕ) → IsWorld ring w h
-    → TurnedTo ring w (turned w id (record { durable = recover (w.nodes id).durable; soft = Some (fresh_soft (w.nodes id).durable) }) [] [] []) h id []
+    → TurnedTo ring w (turned w id (record { durable = recover (w.nodes id).durable; soft = Some (fresh_soft (w.nodes id).durable) }) [] [] []) h id [] []
 restart_keeps ring w h id k =
     let d = (w.nodes id).durable in
     let n = same_node ring h id d (recover d) (record { term = refl; votes = refl; log = refl; applied = refl }) (k.nodes id) in
-    turn_keeps ring w h id (record { durable = recover d; soft = Some (fresh_soft d) }) [] [] [] [] k (record {
+    turn_keeps ring w h id (record { durable = recover d; soft = Some (fresh_soft d) }) [] [] [] [] [] k (record {
+      books = λ e in_e. inl (in_e, refl);
       after = h;
       history = k.history;
       node = n;

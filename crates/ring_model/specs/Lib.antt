@@ -11,3 +11,4 @@ pub mod Dispatch
 pub mod Worlds
 pub mod Runs
 pub mod Safety
+pub mod WellFormed

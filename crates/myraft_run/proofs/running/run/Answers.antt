@@ -12,7 +12,7 @@ returns-in-Ok-write-clause-printed g c =
     let P : List (String Global) → Type 0 = λ ws. ComesTo (map string_bytes ws) (s.files c.args.shelf.now) (s.faults c.args.shelf.now) (s.faults c.text.new.shelf) (Ok c.in-Ok.text) in
     let Q : List ℕ → Type 0 = λ t. IfSome (o.taken c.args.out.now) (λ taken. o.taken c.write.new.out ≡ Some (taken ++ t)) in
     λ zero. printed (map string_bytes c.args.words.now.items) (s.files c.args.shelf.now) (s.faults c.args.shelf.now) (s.faults c.text.new.shelf) c.in-Ok.text
-    (o.taken c.args.out.now) (o.taken c.write.new.out) c.law_safe.ensures c.law_prepared_agrees.ensures (subst P c.as_slice.ensures.value c.in-Ok.ensures) (subst Q c.as_slice-in-Ok.ensures c.in-Ok-write.ensures)
+    (o.taken c.args.out.now) (o.taken c.write.new.out) c.law_safe.ensures c.law_prepared_agrees.ensures c.law_chosen_is_valid.ensures (subst P c.as_slice.ensures.value c.in-Ok.ensures) (subst Q c.as_slice-in-Ok.ensures c.in-Ok-write.ensures)
 
 pub returns-clause-complete : goal.returns-clause-complete
 returns-clause-complete g c =
