@@ -13,7 +13,7 @@ use Rattle.ring_model.specs.Dispatch.{step}
 use Rattle.ring_model.specs.Nodes.{is_leader}
 use Rattle.ring_model.proofs.Lists.{cons_cases}
 use Rattle.ring_lawful.specs.EachStep.{EveryStepIsPossible, EveryStepKeepsLawful, IsFitNode, IsFitPart, IsGood}
-use Rattle.ring_lawful.specs.Lawful.{KeepsCounts}
+use Rattle.ring_lawful.proofs.Keeps.{KeepsCounts}
 use Rattle.ring_lawful.proofs.Along.{Allowed, Along, allowed_along, along_cut, along_end}
 use Rattle.ring_lawful.proofs.Chains.{Ordered, order_of, ordered_along, ordered_from}
 use Rattle.ring_lawful.proofs.Engine.{Can, HasPairs}

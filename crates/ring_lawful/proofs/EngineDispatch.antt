@@ -164,14 +164,3 @@ step_both ring me d s (input.Write client changes) f = write_both ring me client
 step_both ring me d s (input.Rotate client) f = rotate_both ring me client d s
 step_both ring me d s (input.Transfer client target) f = transfer_both ring me client target d s
 step_both ring me d s (input.Cancel client) f = cancel_both ring me client d s
-
--- ---- what the model's invariant gives of a step
-pub row_fits : (ring : Layout) (h : History) (id : ℕ) (d : Durable) (s : Soft) (st : Step) → IsHistory ring h → IsNode ring h id d → IsRow ring h id d s st → Fits d st.plan.actions st.soft.commit
-row_fits ring h id d s st k n row = record {
-  placed = placed_in ring row.acted (all_done d st.plan.actions).term (all_done d st.plan.actions).log (path_keeps ring id h row.acted d st.plan.actions k n row.path).node.log;
-  inside = seal_within ring row.sent (all_done d st.plan.actions).term st.soft.commit (all_done d st.plan.actions).log row.sealed;
-  cuts = λ c.
-      let x = path_cut ring id h row.acted d st.plan.actions c row.path in
-      let e : Durable = all_done d (take c st.plan.actions) in
-      seal_within ring x.0 e.term e.applied e.log (path_keeps ring id h x.0 d (take c st.plan.actions) k n x.1).node.applied;
-}

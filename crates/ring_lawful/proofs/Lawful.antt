@@ -1,4 +1,4 @@
--- In every world of every run each running node is lawful.
+-- A running node that keeps its counts, its engine and its soft part over a sound durable part is lawful.
 use Rattle.std.proofs.Common.{◌≡◌, ℕ, ◌+◌, ◌<◌, ◌≤◌, ◌⊎◌, ◌∙◌, List, ap, arith, false, inl, inr, length, refl, sym, true}
 use Rattle.std.proofs.lemmas.Bool.Decides.{nat_tests}
 use Rattle.std.proofs.lemmas.List.Elements.{Contains-get_or}
@@ -12,7 +12,8 @@ use Rattle.ring_model.specs.declared.nodes.Soft.{Soft}
 use Rattle.ring_model.specs.Nodes.{IsLawful, IsPendingIn, IsSound, PeerFits, fresh_soft, is_leader, is_ready}
 use Rattle.ring_model.specs.Runs.{IsRun, Move, world}
 use Rattle.ring_model.proofs.Lists.{all_of}
-use Rattle.ring_lawful.specs.Lawful.{EveryRunningNodeIsLawful, KeepsCounts, RunsEngine}
+use Rattle.ring_lawful.specs.Lawful.{EveryRunningNodeIsLawful}
+use Rattle.ring_lawful.proofs.Keeps.{KeepsCounts, RunsEngine}
 use Rattle.ring_lawful.proofs.Carry.{Holds, IsKeptByAll, holds_always}
 use Rattle.ring_lawful.proofs.Leads.{SoftFits, increasing, stands}
 use Rattle.ring_lawful.proofs.LeadsRules.{step_soft}
@@ -20,27 +21,6 @@ use Rattle.ring_lawful.proofs.Order.{every_node_keeps_order, running_counts}
 use Rattle.ring_lawful.proofs.Prepared.{every_node_keeps_pairs}
 use Rattle.ring_lawful.proofs.SizedRules.{IsShort}
 use Rattle.ring_lawful.proofs.Sound.{every_node_is_sound, every_run_keeps_candidates_short}
-
-abbrev Anything : ℕ → Durable → Type 0
-Anything id d = Unit {0}
-
-abbrev SoftAt : Layout → ℕ → Durable → Soft → Type 0
-SoftAt ring id d s = SoftFits ring id d.log s
-
-abbrev Sent : Message → Type 0
-Sent m = Unit {0}
-
-soft_kept : (ring : Layout) → IsKeptByAll ring Anything (SoftAt ring) Sent
-soft_kept ring = record {
-  first = λ id. tt;
-  steps = λ h id d s i k n r given whole sent x y. record { cut = λ c. tt; whole = tt; soft = step_soft ring id d s i y (running_counts ring h id d s r).commit_inside; sent = λ m in_m. tt };
-  recovers = λ h id d n x. tt;
-  partly = λ h id d n k x. tt;
-  starts = λ h id d n x. stands ring id d.log (fresh_soft d) refl (λ v. refl) refl refl tt;
-}
-
-soft_always : (ring : Layout) (run : List Move) → IsRun ring run → Holds Anything (SoftAt ring) Sent (world ring run)
-soft_always ring run lawful = holds_always ring Anything (SoftAt ring) Sent (soft_kept ring) run lawful
 
 all_from : {X : Type 0} (P : X → Type 0) (xs : List X) → ((x : X) → Contains xs x → P x) → All P xs
 all_from P xs each k d lt = each (slice_index_or xs k d) (Contains-get_or xs k d lt)
@@ -52,7 +32,6 @@ unready : (s : Soft) (n : ℕ) → is_leader s.role ≡ true → (nat_le s.ready
 unready s n led (inr end) is = end
 unready s n led (inl before) is = absurd (let z : is_ready s ≡ true = rw (led, before) refl in let y : true ≡ false = sym z ∙ is in cc)
 
--- a running node that keeps its counts, its engine and its soft part over a sound durable part is lawful
 pub lawful_from : (ring : Layout) (id : ℕ) (d : Durable) (s : Soft) → IsSound ring id d → KeepsCounts d s → RunsEngine ring id d s → IsShort d s → SoftFits ring id d.log s → IsLawful ring id d s
 lawful_from ring id d s sound c p short x = record {
   sound = sound;
@@ -73,9 +52,3 @@ lawful_from ring id d s sound c p short x = record {
   transfer_fits = x.transfer;
   mock_fits = x.mock;
 }
-
-pub every_running_node_is_lawful : EveryRunningNodeIsLawful
-every_running_node_is_lawful ring run lawful id s up =
-    let d : Durable = ((world ring run).nodes id).durable in
-    lawful_from ring id d s (every_node_is_sound ring run lawful id) ((every_node_keeps_order ring run lawful).1 id s up) ((every_node_keeps_pairs ring run lawful).1 id s up)
-    (every_run_keeps_candidates_short ring run lawful id s up) ((soft_always ring run lawful).running id s up)

@@ -1,4 +1,4 @@
--- In every world of every run the actions that a running node plans are possible, each where its turn comes.
+-- Actions that keep order, limits and pairs are possible, each where its turn comes.
 use Rattle.std.proofs.Common.{◌≡◌, ℕ, ◌^◌, ◌≤◌, ◌&&◌, [], ◌∷◌, Bool, List, Some, arith, false, length, refl, subst, suc, sym, take, true}
 use Rattle.std.specs.Prelude.{nat_le, nat_lt}
 use Rattle.ring_types.specs.declared.entries.Entry.{Entry}
@@ -23,7 +23,8 @@ use Rattle.ring_model.proofs.Dispatch.{IsGiven, step_row}
 use Rattle.ring_model.proofs.Lists.{both_true}
 use Rattle.ring_model.proofs.Paths.{path_cut, path_keeps}
 use Rattle.ring_model.proofs.Runs.{reached}
-use Rattle.ring_lawful.specs.Lawful.{EveryPlanIsPossible, KeepsOrder, WasSent}
+use Rattle.ring_lawful.specs.Lawful.{EveryPlanIsPossible, WasSent}
+use Rattle.ring_lawful.proofs.Keeps.{KeepsOrder}
 use Rattle.ring_lawful.proofs.Along.{Allowed, Along, allowed_along, along_cut}
 use Rattle.ring_lawful.proofs.Engine.{Can}
 use Rattle.ring_lawful.proofs.EngineDispatch.{row_fits, step_both}
@@ -86,46 +87,9 @@ pub tail_can : (d : Durable) (actions : List Action) → AllTail actions → All
 tail_can d [] t = tt
 tail_can d (a ∷ actions) t = (tail_one d a t.0, tail_can (done d a) actions t.1)
 
-given_is : (messages : List Message) (id : ℕ) (i : Input) → WasSent messages id i → IsGiven messages id i
-given_is messages id (input.Deliver m) x = x
-given_is messages id input.Elect x = tt
-given_is messages id input.Beat x = tt
-given_is messages id (input.Write client changes) x = tt
-given_is messages id (input.Rotate client) x = tt
-given_is messages id (input.Transfer client target) x = tt
-given_is messages id (input.Cancel client) x = tt
-
 pub restart_possible : (ring : Layout) (d : Durable) → ArePossible ring.schema d (restart_actions d)
 restart_possible ring d = go (stray_opids d)
   where
     go : (o : List Opid) → ArePossible ring.schema d (elim o [ [] ↦ [] | o ∷ opids ↦ action.DropPairs (o ∷ opids) ∷ [] ])
     go [] = tt
     go (o ∷ opids) = (tt, tt)
-
-pub every_plan_is_possible : EveryPlanIsPossible
-every_plan_is_possible ring run lawful = (λ id s up i given whole. plan id s up i given whole, λ id. restart_possible ring ((world ring run).nodes id).durable)
-  where
-    plan : (id : ℕ) (s : Soft) → ((world ring run).nodes id).soft ≡ Some s → (i : Input) → WasSent (world ring run).messages id i → is_whole_input i ≡ true
-        → ArePossible ring.schema ((world ring run).nodes id).durable (step ring id ((world ring run).nodes id).durable s i).plan.actions
-    plan id s up i given whole =
-        let d : Durable = ((world ring run).nodes id).durable in
-        let st = step ring id d s i in
-        let r = reached ring run in
-        let h = r.history in
-        let k = r.world in
-        let sized = sized_always ring run lawful in
-        let row = step_row ring h id d s i k.history (k.nodes id) (k.running id s up) (given_is h.messages id i (subst (λ (ms : List Message). WasSent ms id i) (sym k.messages) given)) in
-        let b = step_both ring id d s i (row_fits ring h id d s st k.history (k.nodes id) row) in
-        let x : Sized ring d = sized.nodes id in
-        let keeps = step_keeps ring id (world ring run).messages d s i (given_is (world ring run).messages id i given) whole sized.messages x (sized.running id s up) in
-        let along = allowed_along (May ring) (Sized ring) (sized_one ring) d st.plan.actions keeps.allowed x in
-        let each : (n : ℕ) → Good ring (all_done d (take n st.plan.actions)) = λ n.
-        (let c = path_cut ring id h row.acted d st.plan.actions n row.path in
-        good ring (all_done d (take n st.plan.actions)) (node_order ring c.0 id (all_done d (take n st.plan.actions)) (path_keeps ring id h c.0 d (take n st.plan.actions) k.history (k.nodes id) c.1).node)
-        (along_cut (Sized ring) d st.plan.actions n along)) in
-        possible_all ring d st.plan.actions (along_from (Good ring) d st.plan.actions each) keeps.allowed (go (runs_engine ring id) refl b)
-      where
-        go : (e : Bool) → runs_engine ring id ≡ e → Both ring id ((world ring run).nodes id).durable s (step ring id ((world ring run).nodes id).durable s i)
-            → Allowed Can ((world ring run).nodes id).durable (step ring id ((world ring run).nodes id).durable s i).plan.actions
-        go true is b = (b.engine is ((held ring run lawful).running id s up is)).can
-        go false is b = tail_can ((world ring run).nodes id).durable (step ring id ((world ring run).nodes id).durable s i).plan.actions (b.tail is)

@@ -1,4 +1,4 @@
--- In every world of every run the prepared pairs are those of a stretch above the applied count, and a logtailer has none.
+-- What an engine's actions and a recovery leave of the prepared pairs: those of a stretch above the applied count, and on a logtailer none.
 use Rattle.std.proofs.Common.{◌≡◌, ℕ, ◌≤◌, [], ◌∷◌, ◌∙◌, Bool, List, ap, arith, false, length, not, refl, suc, sym, take, true, zero}
 use Rattle.std.proofs.lemmas.Bool.Decides.{nat_tests}
 use Rattle.std.specs.Prelude.{filter, map}
@@ -20,7 +20,8 @@ use Rattle.ring_model.specs.Runs.{IsRun, Move, world}
 use Rattle.ring_model.proofs.Dispatch.{step_row}
 use Rattle.ring_model.proofs.Invariant.{History, IsNode}
 use Rattle.ring_model.proofs.Turns.{seal_within}
-use Rattle.ring_lawful.specs.Lawful.{EveryRunPreparesInOrder, EveryNodeKeepsPairs, KeepsPairs, RunsEngine}
+use Rattle.ring_lawful.specs.Lawful.{}
+use Rattle.ring_lawful.proofs.Keeps.{KeepsPairs, RunsEngine}
 use Rattle.ring_lawful.proofs.Along.{Along, along_cut, along_end}
 use Rattle.ring_lawful.proofs.Carry.{Holds, IsKeptByAll, holds_always}
 use Rattle.ring_lawful.proofs.Engine.{Clean, HasPairs, clean_above, clean_has, clean_kept}
@@ -40,9 +41,6 @@ pub record Engine (ring : Layout) (id : ℕ) (d : Durable) : Type 0 where
 abbrev pub Running : Layout → ℕ → Durable → Soft → Type 0
 Running ring id d s = runs_engine ring id ≡ true → EngineRuns d s
 
-abbrev pub Nothing : Message → Type 0
-Nothing m = Unit {0}
-
 -- ---- a logtailer
 tail_one : (d : Durable) (a : Action) → IsTail a → IsEmpty d → IsEmpty (done d a)
 tail_one d (action.SetTerm term) t x = x
@@ -61,9 +59,6 @@ tail_along d (a ∷ actions) t x = (x, tail_along (done d a) actions t.1 (tail_o
 -- ---- recovery
 pub recovered_from : (d : Durable) → Placed d.log → d.applied ≤ length d.log → HasPairs d → (k : ℕ) × Clean (recover d) k
 recovered_from d placed inside x = (x.0, record { placed = placed; applied = inside; inside = x.2; prepared = x.3 })
-
-recovered : (ring : Layout) (h : History) (id : ℕ) (d : Durable) → IsNode ring h id d → HasPairs d → (k : ℕ) × Clean (recover d) k
-recovered ring h id d n x = recovered_from d (placed_in ring h d.term d.log n.log) (seal_within ring h d.term d.applied d.log n.applied) x
 
 same_is : (a b : Opid) → same_opid a b ≡ true → (log : List Entry) → has_opid log a ≡ has_opid log b
 same_is a b is [] = refl
@@ -112,44 +107,6 @@ partly_one ring id d (suc n) (o ∷ opids) is x = go n
     go zero = y
     go (suc n) = y
 
--- ---- every step
-pub engine_kept : (ring : Layout) → IsKeptByAll ring (Engine ring) (Running ring) Nothing
-engine_kept ring = record {
-  first = λ id. record { engine = λ runs. (0, omega arith, omega arith, refl); tailer = λ runs. (refl, refl) };
-  steps = λ h id d s i k n r given whole sent x y.
-      let st = step ring id d s i in
-      let b = step_both ring id d s i (row_fits ring h id d s (step ring id d s i) k n (step_row ring h id d s i k n r given)) in
-      record {
-        cut = λ c. record {
-          engine = λ runs. along_cut HasPairs d st.plan.actions c (b.engine runs (y runs)).along;
-          tailer = λ runs. along_cut IsEmpty d st.plan.actions c (tail_along d st.plan.actions (b.tail runs) (x.tailer runs));
-        };
-        whole = record {
-          engine = λ runs. along_end HasPairs d st.plan.actions (b.engine runs (y runs)).along;
-          tailer = λ runs. along_end IsEmpty d st.plan.actions (tail_along d st.plan.actions (b.tail runs) (x.tailer runs));
-        };
-        soft = λ runs. (b.engine runs (y runs)).after;
-        sent = λ m in_m. tt;
-      };
-  recovers = λ h id d n x. record {
-    engine = λ runs. (let c = recovered ring h id d n (x.engine runs) in clean_has (recover d) c.0 c.1);
-    tailer = λ runs. (let z = x.tailer runs in (z.0, ap (filter (λ (p : Pair). has_opid d.log p.opid)) z.1));
-  };
-  partly = λ h id d n k x. partly_one ring id d n (stray_opids d) refl x;
-  starts = λ h id d n x runs. (let c = recovered ring h id d n (x.engine runs) in stands_down (recover d) (fresh_soft d) c.0 c.1 refl refl);
-}
-
-pub held : (ring : Layout) (run : List Move) → IsRun ring run → Holds (Engine ring) (Running ring) Nothing (world ring run)
-held ring run lawful = holds_always ring (Engine ring) (Running ring) Nothing (engine_kept ring) run lawful
-
-pub every_run_prepares_in_order : EveryRunPreparesInOrder
-every_run_prepares_in_order ring run lawful =
-    let x = held ring run lawful in
-    record {
-      engine = λ id s up runs. (let r = x.running id s up runs in clean_above ((world ring run).nodes id).durable r.k r.clean);
-      tailer = λ id runs. (let z = (x.nodes id).tailer runs in (z.1, z.0));
-    }
-
 -- ---- each node by itself
 empty_has : (d : Durable) → IsEmpty d → HasPairs d
 empty_has d x = (d.applied, omega arith, omega (arith, x.0), ap (filter (λ (p : Pair). has_opid d.log p.opid)) x.1 ∙ sym (ap pairs_in (none_between d.log d.applied d.applied (omega arith))))
@@ -171,10 +128,3 @@ runs_of ring id d s e r = record {
     kept_in_log : (b : Bool) → runs_engine ring id ≡ b → kept_pairs d ≡ d.prepared
     kept_in_log true is = let x = r is in clean_kept d x.k x.clean
     kept_in_log false is = let z = e.tailer is in ap (filter (λ (p : Pair). has_opid d.log p.opid)) z.1 ∙ sym z.1
-
-pub every_node_keeps_pairs : EveryNodeKeepsPairs
-every_node_keeps_pairs ring run lawful =
-    let x = held ring run lawful in (
-      λ id. pairs_of ring id ((world ring run).nodes id).durable (x.nodes id),
-      λ id s up. runs_of ring id ((world ring run).nodes id).durable s (x.nodes id) (x.running id s up),
-    )

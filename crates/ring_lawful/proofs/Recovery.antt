@@ -1,4 +1,4 @@
--- Recovery makes a lawful node of any sound durable part; and so, by the laws of each step, every message of every run is well formed but for the sum of bytes that a proxy sends.
+-- Recovery makes a lawful node of any sound durable part, and what a restart does comes to it.
 use Rattle.std.proofs.Common.{◌≡◌, ℕ, [], ◌∷◌, ◌∙◌, Bool, List, ap, arith, false, refl, subst, suc, sym, take, true, zero}
 use Rattle.std.specs.Prelude.{filter}
 use Rattle.std.specs.List.{Contains}
@@ -19,7 +19,7 @@ use Rattle.ring_model.specs.Nodes.{IsLawful, IsSound, fresh_soft, kept_pairs, re
 use Rattle.ring_model.specs.WellFormed.{IsNearlyWellFormed}
 use Rattle.ring_model.specs.Worlds.{restart_actions}
 use Rattle.ring_lawful.specs.EachStep.{EveryRecoveryIsLawful, IsFitNode, IsFitPart, IsGood}
-use Rattle.ring_lawful.specs.Lawful.{KeepsPairs}
+use Rattle.ring_lawful.proofs.Keeps.{KeepsPairs}
 use Rattle.ring_lawful.proofs.Engine.{clean_has}
 use Rattle.ring_lawful.proofs.EngineSteps.{stands_down}
 use Rattle.ring_lawful.proofs.Lawful.{lawful_from}
@@ -58,7 +58,7 @@ repaired ring me d ps y x = record {
   tailer = y.tailer;
 }
 
-partly_sound : (ring : Layout) (me : ℕ) (d : Durable) (n : ℕ) (o : List Opid) → stray_opids d ≡ o → IsSound ring me d → IsSound ring me (all_done d (take n (elim o [ [] ↦ [] | o ∷ opids ↦ action.DropPairs (o ∷ opids) ∷ [] ])))
+pub partly_sound : (ring : Layout) (me : ℕ) (d : Durable) (n : ℕ) (o : List Opid) → stray_opids d ≡ o → IsSound ring me d → IsSound ring me (all_done d (take n (elim o [ [] ↦ [] | o ∷ opids ↦ action.DropPairs (o ∷ opids) ∷ [] ])))
 partly_sound ring me d zero [] is x = x
 partly_sound ring me d (suc n) [] is x = x
 partly_sound ring me d zero (o ∷ opids) is x = x
@@ -71,7 +71,7 @@ partly_sound ring me d (suc n) (o ∷ opids) is x = go n
     go zero = y
     go (suc n) = y
 
-recovery_lawful : (ring : Layout) (me : ℕ) (d : Durable) → IsSound ring me d → IsLawful ring me (recover d) (fresh_soft d)
+pub recovery_lawful : (ring : Layout) (me : ℕ) (d : Durable) → IsSound ring me d → IsLawful ring me (recover d) (fresh_soft d)
 recovery_lawful ring me d x =
     let c = recovered_from d x.log.placed x.applied_inside x.pairs_in_order in
     let y : Engine ring me (recover d) = record {
@@ -123,7 +123,7 @@ pub every_recovery_is_lawful : EveryRecoveryIsLawful
 every_recovery_is_lawful ring me d x = (recovery_lawful ring me d x, restart_possible ring d, λ n. partly_sound ring me d n (stray_opids d) refl x, restart_recovers d)
 
 -- ---- a node that never ran
-empty_sound : (ring : Layout) (me : ℕ) → IsSound ring me empty_durable
+pub empty_sound : (ring : Layout) (me : ℕ) → IsSound ring me empty_durable
 empty_sound ring me = record {
   log = record { placed = λ k e is. chain_places [] tt k e is; rises = λ j k le high. chain_rises [] tt j k le high; short = omega arith; few_files = omega arith };
   groups_fit = refl;
@@ -139,48 +139,3 @@ empty_sound ring me = record {
 
 pub every_first_node_is_lawful : EveryFirstNodeIsLawful
 every_first_node_is_lawful ring me = ((empty_sound ring me, refl), (recovery_lawful ring me empty_durable (empty_sound ring me), refl))
-
--- ---- runs: by the laws of each step alone
-abbrev FitAt : Layout → ℕ → Durable → Type 0
-FitAt ring id d = IsFitPart ring id d
-
-abbrev RunsAt : Layout → ℕ → Durable → Soft → Type 0
-RunsAt ring id d s = IsFitNode ring id d s
-
-abbrev NearIn : Layout → Message → Type 0
-NearIn ring m = IsNearlyWellFormed ring.schema m
-
-good_given : (ring : Layout) (messages : List Message) (id : ℕ) (i : Input) → IsGiven messages id i → is_whole_input i ≡ true → ((m : Message) → Contains messages m → NearIn ring m) → IsGood ring i
-good_given ring messages id input.Elect given whole sent = tt
-good_given ring messages id input.Beat given whole sent = tt
-good_given ring messages id (input.Deliver m) given whole sent = sent m given.0
-good_given ring messages id (input.Write client changes) given whole sent = grind (arith, nat_tests, whole)
-good_given ring messages id (input.Rotate client) given whole sent = tt
-good_given ring messages id (input.Transfer client target) given whole sent = tt
-good_given ring messages id (input.Cancel client) given whole sent = tt
-
-partly_payloads : (ring : Layout) (d : Durable) (n : ℕ) (o : List Opid) → payloads_fit ring.schema d.log ≡ true → payloads_fit ring.schema (all_done d (take n (elim o [ [] ↦ [] | o ∷ opids ↦ action.DropPairs (o ∷ opids) ∷ [] ]))).log ≡ true
-partly_payloads ring d zero [] x = x
-partly_payloads ring d (suc n) [] x = x
-partly_payloads ring d zero (o ∷ opids) x = x
-partly_payloads ring d (suc zero) (o ∷ opids) x = x
-partly_payloads ring d (suc (suc n)) (o ∷ opids) x = x
-
-all_kept : (ring : Layout) → IsKeptByAll ring (FitAt ring) (RunsAt ring) (NearIn ring)
-all_kept ring = record {
-  first = λ id. (empty_sound ring id, refl);
-  steps = λ h id d s i k n r given whole sent x y.
-      let g = good_given ring h.messages id i given whole sent in
-      record {
-        cut = (every_step_is_possible ring id d s i y g).1;
-        whole = (let z = every_step_keeps_lawful ring id d s i y g in (z.0.sound, z.1));
-        soft = every_step_keeps_lawful ring id d s i y g;
-        sent = λ m in_m. (every_step_sends_well_formed ring id d s i y g m in_m).0;
-      };
-  recovers = λ h id d n x. ((recovery_lawful ring id d x.0).sound, x.1);
-  partly = λ h id d n k x. (partly_sound ring id d n (stray_opids d) refl x.0, partly_payloads ring d n (stray_opids d) x.1);
-  starts = λ h id d n x. (recovery_lawful ring id d x.0, x.1);
-}
-
-pub every_message_is_nearly_well_formed : EveryMessageIsNearlyWellFormed
-every_message_is_nearly_well_formed ring run lawful m in_m = (holds_always ring (FitAt ring) (RunsAt ring) (NearIn ring) (all_kept ring) run lawful).messages m in_m

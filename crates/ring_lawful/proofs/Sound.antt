@@ -1,4 +1,4 @@
--- In every world of every run each node's durable part is sound.
+-- Each rule keeps the limits of a node, and a durable part that keeps order, limits and pairs is sound.
 use Rattle.std.proofs.Common.{◌≡◌, ℕ, ◌^◌, ◌<◌, ◌==◌, ◌&&◌, ◌||◌, [], ◌∷◌, ◌++◌, if◌then◌else◌, Bool, List, None, Option, Some, arith, false, length, not, refl, suc, take, true, zero}
 use Rattle.std.proofs.lemmas.Bool.Decides.{nat_tests}
 use Rattle.std.specs.Prelude.{nat_le, nat_lt}
@@ -40,7 +40,8 @@ use Rattle.ring_model.specs.Writes.{refused}
 use Rattle.ring_model.proofs.Dispatch.{IsGiven}
 use Rattle.ring_model.proofs.Lists.{all_of, both_true}
 use Rattle.ring_model.proofs.Runs.{reached}
-use Rattle.ring_lawful.specs.Lawful.{EveryNodeIsSound, EveryRunKeepsCandidatesShort, KeepsOrder, KeepsPairs}
+use Rattle.ring_lawful.specs.Lawful.{EveryNodeIsSound, EveryRunKeepsCandidatesShort}
+use Rattle.ring_lawful.proofs.Keeps.{KeepsOrder, KeepsPairs}
 use Rattle.ring_lawful.proofs.Along.{Along, allowed_along, along_cut, along_end}
 use Rattle.ring_lawful.proofs.Carry.{Holds, IsKeptByAll, holds_always}
 use Rattle.ring_lawful.proofs.Order.{node_order}
@@ -178,52 +179,6 @@ body_keeps ring me from d s (body.ClientTransfer target) x short f = transfer_ke
 body_keeps ring me from d s body.ClientCancel x short f = cancel_keeps ring from d s short
 body_keeps ring me from d s (body.ClientReply what) x short f = idle_keeps ring d s short
 
-pub step_keeps : (ring : Layout) (me : ℕ) (messages : List Message) (d : Durable) (s : Soft) (i : Input) → IsGiven messages me i → is_whole_input i ≡ true → ((m : Message) → Contains messages m → BodyFits ring m.body) → Sized ring d → IsShort d s → Keeps ring d (step ring me d s i)
-step_keeps ring me messages d s input.Elect given whole fit x short = elect_keeps ring me d s x short
-step_keeps ring me messages d s input.Beat given whole fit x short = beat_keeps ring me d s x short
-step_keeps ring me messages d s (input.Deliver m) given whole fit x short = go (is_foreign ring me m)
-  where
-    go : (b : Bool) → Keeps ring d (if b then idle s else body_step ring me d s m.from m.body)
-    go true = idle_keeps ring d s short
-    go false = body_keeps ring me m.from d s m.body x short (fit m given.0)
-step_keeps ring me messages d s (input.Write client changes) given whole fit x short = write_keeps ring me client changes d s whole x short
-step_keeps ring me messages d s (input.Rotate client) given whole fit x short = rotate_keeps ring me client d s x short
-step_keeps ring me messages d s (input.Transfer client target) given whole fit x short = transfer_keeps ring me client target d s short
-step_keeps ring me messages d s (input.Cancel client) given whole fit x short = cancel_keeps ring client d s short
-
--- ---- every step
-abbrev pub SizedAt : Layout → ℕ → Durable → Type 0
-SizedAt ring id d = Sized ring d
-
-abbrev pub ShortAt : ℕ → Durable → Soft → Type 0
-ShortAt id d s = IsShort d s
-
-abbrev pub FitsIn : Layout → Message → Type 0
-FitsIn ring m = BodyFits ring m.body
-
-partly_sized : (ring : Layout) (d : Durable) (n : ℕ) (o : List Opid) → Sized ring d → Sized ring (all_done d (take n (elim o [ [] ↦ [] | o ∷ opids ↦ action.DropPairs (o ∷ opids) ∷ [] ])))
-partly_sized ring d zero [] x = x
-partly_sized ring d (suc n) [] x = x
-partly_sized ring d zero (o ∷ opids) x = x
-partly_sized ring d (suc zero) (o ∷ opids) x = sized_at ring d (done d (action.DropPairs (o ∷ opids))) refl refl refl x
-partly_sized ring d (suc (suc n)) (o ∷ opids) x = sized_at ring d (done d (action.DropPairs (o ∷ opids))) refl refl refl x
-
-sized_kept : (ring : Layout) → IsKeptByAll ring (SizedAt ring) ShortAt (FitsIn ring)
-sized_kept ring = record {
-  first = λ id. record { term = omega arith; entries = refl; files = omega arith; few = omega arith; rise = tt; below = refl };
-  steps = λ h id d s i k n r given whole sent x short.
-      let st = step ring id d s i in
-      let b = step_keeps ring id h.messages d s i given whole sent x short in
-      let along : Along (Sized ring) d st.plan.actions = allowed_along (May ring) (Sized ring) (sized_one ring) d st.plan.actions b.allowed x in
-      record { cut = λ c. along_cut (Sized ring) d st.plan.actions c along; whole = along_end (Sized ring) d st.plan.actions along; soft = b.short; sent = λ m in_m. fit_each ring st.plan.messages m b.sent in_m };
-  recovers = λ h id d n x. sized_at ring d (recover d) refl refl refl x;
-  partly = λ h id d n k x. partly_sized ring d n (stray_opids d) x;
-  starts = λ h id d n x bad. absurd cc;
-}
-
-pub sized_always : (ring : Layout) (run : List Move) → IsRun ring run → Holds (SizedAt ring) ShortAt (FitsIn ring) (world ring run)
-sized_always ring run lawful = holds_always ring (SizedAt ring) ShortAt (FitsIn ring) (sized_kept ring) run lawful
-
 -- the last entry's position is the length
 pub short_log : (ring : Layout) (log : List Entry) → Placed log → list_all (entry_fits ring) log ≡ true → length log < 2 ^ 62
 short_log ring log placed fit = go (length log) refl
@@ -259,12 +214,3 @@ sound_from ring id d o x p =
       pairs_in_order = p.pairs_in_order;
       tailer = p.tailer;
     }
-
-pub every_node_is_sound : EveryNodeIsSound
-every_node_is_sound ring run lawful id =
-    let d : Durable = ((world ring run).nodes id).durable in
-    let r = reached ring run in
-    sound_from ring id d (node_order ring r.history id d (r.world.nodes id)) ((sized_always ring run lawful).nodes id) ((every_node_keeps_pairs ring run lawful).0 id)
-
-pub every_run_keeps_candidates_short : EveryRunKeepsCandidatesShort
-every_run_keeps_candidates_short ring run lawful id s up = (sized_always ring run lawful).running id s up

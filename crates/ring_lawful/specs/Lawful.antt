@@ -1,74 +1,27 @@
--- What holds of each node in every world of every run, part by part.
-use Rattle.std.specs.Prelude.{◌≡◌, ℕ, ◌≤◌, ◌<◌, ◌+◌, ◌-◌, ◌^◌, true, false, List, [], length, Some}
+-- What holds of each node in every world of every run.
+use Rattle.std.specs.Prelude.{◌≡◌, ℕ, true, List, Some}
 use Rattle.std.specs.List.{Contains}
 use Rattle.ring_types.specs.declared.entries.Entry.{Entry}
-use Rattle.ring_types.specs.Rings.{Layout, runs_engine}
 use Rattle.ring_types.specs.declared.values.Gtid.{Gtid}
 use Rattle.ring_types.specs.Gtids.{gtid_of}
-use Rattle.ring_types.specs.Logs.{entry_at, last, term_at}
+use Rattle.ring_types.specs.Logs.{entry_at}
+use Rattle.ring_types.specs.Rings.{Layout}
 use Rattle.ring_types.specs.Rows.{is_valid}
-use Rattle.ring_model.specs.declared.nodes.Durable.{Durable}
-use Rattle.ring_model.specs.declared.nodes.Soft.{Soft}
-use Rattle.ring_model.specs.declared.nodes.Peer.{Peer}
-use Rattle.ring_model.specs.declared.nodes.Role.TheVariants.{Candidate, Leader}
-use Rattle.ring_model.specs.Runs.{Move, world, IsRun, is_whole_input}
-use Rattle.ring_model.specs.Worlds.{restart_actions}
-use Rattle.ring_model.specs.Dispatch.{step}
-use Rattle.ring_model.specs.declared.messages.Message.{Message}
 use Rattle.ring_model.specs.declared.messages.Input.{Input}
 use Rattle.ring_model.specs.declared.messages.Input.TheVariants as input
-use Rattle.ring_model.specs.Actions.{ArePossible, pairs_in, entries_between}
-use Rattle.ring_model.specs.Nodes.{IsLawful, IsSound, ArePairsAbove, kept_pairs, is_ready}
-use Rattle.ring_model.specs.Safety.{Runs, PreparedAgrees, ChosenIsValid}
+use Rattle.ring_model.specs.declared.messages.Message.{Message}
+use Rattle.ring_model.specs.declared.nodes.Soft.{Soft}
+use Rattle.ring_model.specs.Actions.{ArePossible}
+use Rattle.ring_model.specs.Dispatch.{step}
+use Rattle.ring_model.specs.Nodes.{IsLawful, IsSound}
+use Rattle.ring_model.specs.Runs.{IsRun, Move, is_whole_input, world}
+use Rattle.ring_model.specs.Safety.{ChosenIsValid, Runs}
+use Rattle.ring_model.specs.Worlds.{restart_actions}
 
--- ---- order
--- the log's entries stand in their places, terms do not fall and are at most the node's, and what is applied is in the log
-pub record KeepsOrder (d : Durable) : Type 0 where
-  pub placed : (k : ℕ) (e : Entry) → entry_at d.log k ≡ Some e → e.opid.position ≡ k
-  pub rises : (j k : ℕ) → j ≤ k → k ≤ length d.log → term_at d.log j ≤ term_at d.log k
-  pub log_below : (last d.log).term ≤ d.term
-  pub applied_inside : d.applied ≤ length d.log
-
--- the commit count of a running node is between what it applied and the length of its log; a leader sends a member what follows the matched entries, from its log or its end
-pub record KeepsCounts (d : Durable) (s : Soft) : Type 0 where
-  pub commit_above : d.applied ≤ s.commit
-  pub commit_inside : s.commit ≤ length d.log
-  pub peers_near : s.role ≡ Leader → (p : Peer) → Contains s.peers p → (p.matched < p.next) × (p.next ≤ length d.log + 1)
-
-abbrev pub EveryNodeKeepsOrder : Type 0
-EveryNodeKeepsOrder = (ring : Layout) (run : List Move) → IsRun ring run
-    → ((id : ℕ) → KeepsOrder ((world ring run).nodes id).durable)
-    × ((id : ℕ) (s : Soft) → Runs (world ring run) id s → KeepsCounts ((world ring run).nodes id).durable s)
-
--- ---- prepared pairs
-abbrev pub EveryRunPreparesInOrder : Type 0
-EveryRunPreparesInOrder = (ring : Layout) (run : List Move) → IsRun ring run → PreparedAgrees ring (world ring run)
-
--- of the prepared pairs, those whose entry is in the log are those of a stretch above the applied count; a logtailer has none and has applied nothing
-pub record KeepsPairs (ring : Layout) (me : ℕ) (d : Durable) : Type 0 where
-  pub pairs_in_order : ArePairsAbove d.log d.applied (kept_pairs d)
-  pub tailer : runs_engine ring me ≡ false → (d.applied ≡ 0) × (d.prepared ≡ [])
-
--- while a node runs every prepared pair's entry is in the log, the engine has applied what is committed, and a ready leader has every transaction above it prepared
-pub record RunsEngine (ring : Layout) (me : ℕ) (d : Durable) (s : Soft) : Type 0 where
-  pub pairs_in_log : kept_pairs d ≡ d.prepared
-  pub engine_follows : runs_engine ring me ≡ true → s.commit ≡ d.applied
-  pub all_prepared : is_ready s ≡ true → runs_engine ring me ≡ true → d.prepared ≡ pairs_in (entries_between d.log d.applied (length d.log))
-
-abbrev pub EveryNodeKeepsPairs : Type 0
-EveryNodeKeepsPairs = (ring : Layout) (run : List Move) → IsRun ring run
-    → ((id : ℕ) → KeepsPairs ring id ((world ring run).nodes id).durable)
-    × ((id : ℕ) (s : Soft) → Runs (world ring run) id s → RunsEngine ring id ((world ring run).nodes id).durable s)
-
--- ---- sound
+-- ---- sound and lawful
 abbrev pub EveryNodeIsSound : Type 0
 EveryNodeIsSound = (ring : Layout) (run : List Move) → IsRun ring run → (id : ℕ) → IsSound ring id ((world ring run).nodes id).durable
 
--- a candidate's log has room for the NoOp with which it may lead
-abbrev pub EveryRunKeepsCandidatesShort : Type 0
-EveryRunKeepsCandidatesShort = (ring : Layout) (run : List Move) → IsRun ring run → (id : ℕ) (s : Soft) → Runs (world ring run) id s → s.role ≡ Candidate → length ((world ring run).nodes id).durable.log < 2 ^ 62 - 1
-
--- ---- lawful
 abbrev pub EveryRunningNodeIsLawful : Type 0
 EveryRunningNodeIsLawful = (ring : Layout) (run : List Move) → IsRun ring run → (id : ℕ) (s : Soft) → Runs (world ring run) id s → IsLawful ring id ((world ring run).nodes id).durable s
 

@@ -7,9 +7,9 @@ use Rattle.ring_types.specs.Rings.{Layout, is_member}
 use Rattle.ring_types.specs.declared.entries.Opid.{Opid}
 use Rattle.ring_model.specs.declared.effects.Action.{Action}
 use Rattle.ring_model.specs.Safety.{Agree}
-use Rattle.ring_model.specs.Worlds.{ComeUp, Completion, Cut, GoDown, Handle, Task, Whole, WorldState, at_node, ended, first_world, given, handled, line_step, member_turn, message_at, moved, next_given, next_to, passed, restart_actions, skipped, turn, world_step}
+use Rattle.ring_model.specs.Worlds.{ComeUp, Completion, Cut, GoDown, Handle, Rest, Task, Whole, WorldState, at_node, ended, first_world, given, given_to, handled, line_step, member_turn, message_at, moved, next_given, next_to, passed, restart_actions, skipped, turn, world_step}
 use Rattle.ring_model.specs.declared.nodes.Durable.{Durable}
-use Rattle.ring_model.specs.Runs.{Election, Move, acted_elections, acted_tear, acting, acts_at, acts_on, acts_on_number, event_elections, held_at, held_by, tear_at}
+use Rattle.ring_model.specs.Runs.{Election, Move, acted_elections, acted_tear, acting, acts_at, acts_next, acts_on, acts_to, event_elections, held_at, held_by, tear_at}
 use Rattle.ring_model.specs.declared.messages.Input.{Input}
 use Rattle.ring_model.specs.declared.worlds.Line.{Line}
 use Rattle.ring_model.specs.declared.messages.Message.{Message}
@@ -30,13 +30,14 @@ use Rattle.ring_model.proofs.Dispatch.{IsGiven, step_row, step_whole}
 use Rattle.ring_model.proofs.Telling.{KeepsPending, step_tells}
 use Rattle.ring_model.proofs.Told.{HoldsTold, same_told, told_by_silence, told_by_step}
 
--- the log of the acting node after some of its step's actions, or as it was where it went down or came up
+-- the log of the acting node after some of its step's actions, or as it was where it went down, came up or rested
 abbrev pub OnWay : Layout → WorldState → Option (ℕ × Task) → List Entry → Type 0
 OnWay ring w None l = ⊥
 OnWay ring w (Some (id, Handle i)) l =
     (s : Soft) × ((w.nodes id).soft ≡ Some s) × IsGiven w.messages id i × ((n : ℕ) × (l ≡ (all_done (w.nodes id).durable (take n (step ring id (w.nodes id).durable s i).plan.actions)).log))
 OnWay ring w (Some (id, GoDown)) l = l ≡ (w.nodes id).durable.log
 OnWay ring w (Some (id, ComeUp)) l = l ≡ (w.nodes id).durable.log
+OnWay ring w (Some (id, Rest)) l = l ≡ (w.nodes id).durable.log
 
 -- from a world with a history: the invariant holds after, nothing that was committed or led is lost, and these elections were held
 pub record Carried (ring : Layout) (w v : WorldState) (h : History) (held : List Election) (acted : Option (ℕ × Task)) : Type 0 where
@@ -166,6 +167,7 @@ abbrev pub MayTake : List Message → ℕ → Task → Type 0
 MayTake messages id (Handle i) = IsGiven messages id i
 MayTake messages id GoDown = Unit {0}
 MayTake messages id ComeUp = Unit {0}
+MayTake messages id Rest = Unit {0}
 
 down_holds_none : (ring : Layout) (id : ℕ) (d : Durable) (o : Option Soft) (completion : Completion) → held_at ring id d o GoDown completion ≡ []
 down_holds_none ring id d None completion = refl
@@ -174,6 +176,10 @@ down_holds_none ring id d (Some s) completion = refl
 up_holds_none : (ring : Layout) (id : ℕ) (d : Durable) (o : Option Soft) (completion : Completion) → held_at ring id d o ComeUp completion ≡ []
 up_holds_none ring id d None completion = refl
 up_holds_none ring id d (Some s) completion = refl
+
+rest_holds_none : (ring : Layout) (id : ℕ) (d : Durable) (o : Option Soft) (completion : Completion) → held_at ring id d o Rest completion ≡ []
+rest_holds_none ring id d None completion = refl
+rest_holds_none ring id d (Some s) completion = refl
 
 turn_over : (ring : Layout) (w : WorldState) (h : History) (id : ℕ) (task : Task) (completion : Completion) → IsWorld ring w h → MayTake w.messages id task
     → Carried ring w (turn ring w id task completion) h (held_at ring id (w.nodes id).durable (w.nodes id).soft task completion) (Some (id, task))
@@ -193,6 +199,12 @@ turn_over ring w h id ComeUp (Cut count) k given =
     let x = down_keeps ring w h id e (count ∷ []) (restart_cut (w.nodes id).durable count) k in
     subst (λ (e : List Election). Carried ring w (turn ring w id ComeUp (Cut count)) h e (Some (id, ComeUp))) (sym (up_holds_none ring id (w.nodes id).durable (w.nodes id).soft (Cut count)))
     (by_turn ring w (turn ring w id ComeUp (Cut count)) h id ComeUp [] [] x (told_by_silence ring w h id (record { durable = e; soft = None }) (count ∷ []) [] [] x (λ o so. absurd cc)) (no_way (w.nodes id).durable))
+turn_over ring w h id Rest Whole k given =
+    subst (λ (e : List Election). Carried ring w (passed w) h e (Some (id, Rest))) (sym (rest_holds_none ring id (w.nodes id).durable (w.nodes id).soft Whole)) (passed_over ring w h (Some (id, Rest)) k)
+turn_over ring w h id Rest (Cut count) k given =
+    let x = down_keeps ring w h id (w.nodes id).durable (count ∷ []) (record { term = refl; votes = refl; log = refl; applied = refl }) k in
+    subst (λ (e : List Election). Carried ring w (turn ring w id Rest (Cut count)) h e (Some (id, Rest))) (sym (rest_holds_none ring id (w.nodes id).durable (w.nodes id).soft (Cut count)))
+    (by_turn ring w (turn ring w id Rest (Cut count)) h id Rest [] [] x (told_by_silence ring w h id (record { durable = (w.nodes id).durable; soft = None }) (count ∷ []) [] [] x (λ o so. absurd cc)) (no_way (w.nodes id).durable))
 
 -- only members act
 member_over : (ring : Layout) (w : WorldState) (h : History) (id : ℕ) (task : Task) (completion : Completion) → IsWorld ring w h → MayTake w.messages id task
@@ -215,11 +227,17 @@ given_over : (ring : Layout) (w : WorldState) (h : History) (completion : Comple
 given_over ring w h completion number None is k = passed_over ring w h None k
 given_over ring w h completion number (Some m) is k = member_over ring w h m.to (Handle (input.Deliver m)) completion k (in_number w.messages number m is, refl)
 
+given_to_over : (ring : Layout) (w : WorldState) (h : History) (id : ℕ) (completion : Completion) (number : ℕ) (o : Option Message) → message_at w.messages number ≡ o → IsWorld ring w h
+    → Carried ring w (given_to ring w id completion o) h (acted_elections ring w completion (acts_to id o)) (acts_to id o)
+given_to_over ring w h id completion number None is k = member_over ring w h id Rest completion k tt
+given_to_over ring w h id completion number (Some m) is k = member_over ring w h m.to (Handle (input.Deliver m)) completion k (in_number w.messages number m is, refl)
+
 moved_way : (ring : Layout) (w : WorldState) (id number : ℕ) (acted : Option (ℕ × Task)) (l : List Entry) → OnWay ring (moved w id number) acted l → OnWay ring w acted l
 moved_way ring w id number None l x = x
 moved_way ring w id number (Some (j, Handle i)) l x = x
 moved_way ring w id number (Some (j, GoDown)) l x = x
 moved_way ring w id number (Some (j, ComeUp)) l x = x
+moved_way ring w id number (Some (j, Rest)) l x = x
 
 -- a moved cursor changes nothing that is said of a world
 from_moved : (ring : Layout) (w z : WorldState) (h : History) (id number : ℕ) (held : List Election) (acted : Option (ℕ × Task)) → Carried ring (moved w id number) z h held acted → Carried ring w z h held acted
@@ -229,20 +247,31 @@ acts_same : (ring : Layout) (w : WorldState) (id number : ℕ) (completion : Com
 acts_same ring w id number completion None = refl
 acts_same ring w id number completion (Some a) = refl
 
-next_over : (ring : Layout) (w : WorldState) (h : History) (id : ℕ) (completion : Completion) (o : Option ℕ) → IsWorld ring w h
-    → Carried ring w (next_given ring w id completion o) h (acted_elections ring w completion (acts_on_number w o)) (acts_on_number w o)
-next_over ring w h id completion None k = passed_over ring w h None k
-next_over ring w h id completion (Some number) k =
-    from_moved ring w (next_given ring w id completion (Some number)) h id number (acted_elections ring w completion (acts_on_number w (Some number))) (acts_on_number w (Some number))
-    (subst (λ (e : List Election). Carried ring (moved w id number) (next_given ring w id completion (Some number)) h e (acts_on (message_at w.messages number))) (acts_same ring w id number completion (acts_on (message_at w.messages number)))
-    (given_over ring (moved w id number) h completion number (message_at w.messages number) refl (same_world ring w (moved w id number) h refl refl refl k)))
+-- an event on the world with the cursor moved, as one on the world before
+over_moved : (ring : Layout) (w z : WorldState) (h : History) (id number : ℕ) (completion : Completion) (acted : Option (ℕ × Task)) → Carried ring (moved w id number) z h (acted_elections ring (moved w id number) completion acted) acted
+    → Carried ring w z h (acted_elections ring w completion acted) acted
+over_moved ring w z h id number completion acted x =
+    from_moved ring w z h id number (acted_elections ring w completion acted) acted
+    (subst (λ (e : List Election). Carried ring (moved w id number) z h e acted) (acts_same ring w id number completion acted) x)
 
-skipped_over : (ring : Layout) (w : WorldState) (h : History) (id : ℕ) (o : Option ℕ) → IsWorld ring w h → Carried ring w (skipped w id o) h [] None
-skipped_over ring w h id None k = passed_over ring w h None k
-skipped_over ring w h id (Some number) k = from_moved ring w (skipped w id (Some number)) h id number [] None (passed_over ring (moved w id number) h None (same_world ring w (moved w id number) h refl refl refl k))
+moved_world : (ring : Layout) (w : WorldState) (h : History) (id number : ℕ) → IsWorld ring w h → IsWorld ring (moved w id number) h
+moved_world ring w h id number k = same_world ring w (moved w id number) h refl refl refl k
+
+next_over : (ring : Layout) (w : WorldState) (h : History) (id : ℕ) (completion : Completion) (o : Option ℕ) → IsWorld ring w h
+    → Carried ring w (next_given ring w id completion o) h (acted_elections ring w completion (acts_next w id o)) (acts_next w id o)
+next_over ring w h id completion None k = member_over ring w h id Rest completion k tt
+next_over ring w h id completion (Some number) k =
+    over_moved ring w (next_given ring w id completion (Some number)) h id number completion (acts_next w id (Some number))
+    (given_to_over ring (moved w id number) h id completion number (message_at w.messages number) refl (moved_world ring w h id number k))
+
+skipped_over : (ring : Layout) (w : WorldState) (h : History) (id : ℕ) (completion : Completion) (o : Option ℕ) → IsWorld ring w h
+    → Carried ring w (skipped ring w id completion o) h (acted_elections ring w completion (Some (id, Rest))) (Some (id, Rest))
+skipped_over ring w h id completion None k = member_over ring w h id Rest completion k tt
+skipped_over ring w h id completion (Some number) k =
+    over_moved ring w (skipped ring w id completion (Some number)) h id number completion (Some (id, Rest)) (member_over ring (moved w id number) h id Rest completion (moved_world ring w h id number k) tt)
 
 at_over : (ring : Layout) (w : WorldState) (h : History) (id : ℕ) (i : Input) (completion : Completion) → IsWorld ring w h → Carried ring w (at_node ring w id i completion) h (acted_elections ring w completion (acts_at id i)) (acts_at id i)
-at_over ring w h id (input.Deliver m) completion k = passed_over ring w h None k
+at_over ring w h id (input.Deliver m) completion k = member_over ring w h id Rest completion k tt
 at_over ring w h id input.Elect completion k = member_over ring w h id (Handle input.Elect) completion k tt
 at_over ring w h id input.Beat completion k = member_over ring w h id (Handle input.Beat) completion k tt
 at_over ring w h id (input.Write client changes) completion k = member_over ring w h id (Handle (input.Write client changes)) completion k tt
@@ -254,8 +283,8 @@ line_over : (ring : Layout) (w : WorldState) (h : History) (completion : Complet
 line_over ring w h completion (line.At node i) k = at_over ring w h node i completion k
 line_over ring w h completion (line.Give number) k = given_over ring w h completion number (message_at w.messages number) refl k
 line_over ring w h completion (line.Next node) k = next_over ring w h node completion (next_to w node) k
-line_over ring w h completion (line.Skip node) k = skipped_over ring w h node (next_to w node) k
-line_over ring w h completion (line.Again node) k = given_over ring w h completion (w.cursors node) (message_at w.messages (w.cursors node)) refl k
+line_over ring w h completion (line.Skip node) k = skipped_over ring w h node completion (next_to w node) k
+line_over ring w h completion (line.Again node) k = given_to_over ring w h node completion (w.cursors node) (message_at w.messages (w.cursors node)) refl k
 line_over ring w h completion (line.Crash node) k = member_over ring w h node GoDown completion k tt
 line_over ring w h completion (line.Restart node) k = member_over ring w h node ComeUp completion k tt
 
@@ -272,6 +301,8 @@ task_whole ring w h id GoDown None up k given = refl
 task_whole ring w h id GoDown (Some s) up k given = refl
 task_whole ring w h id ComeUp None up k given = refl
 task_whole ring w h id ComeUp (Some s) up k given = refl
+task_whole ring w h id Rest None up k given = refl
+task_whole ring w h id Rest (Some s) up k given = refl
 
 member_whole : (ring : Layout) (w : WorldState) (h : History) (id : ℕ) (task : Task) → IsWorld ring w h → MayTake w.messages id task → acted_tear ring w (Some (id, task)) ≡ None
 member_whole ring w h id task k given = go (is_member ring id)
@@ -284,12 +315,16 @@ given_whole : (ring : Layout) (w : WorldState) (h : History) (number : ℕ) (o :
 given_whole ring w h number None is k = refl
 given_whole ring w h number (Some m) is k = member_whole ring w h m.to (Handle (input.Deliver m)) k (in_number w.messages number m is, refl)
 
-next_whole : (ring : Layout) (w : WorldState) (h : History) (o : Option ℕ) → IsWorld ring w h → acted_tear ring w (acts_on_number w o) ≡ None
-next_whole ring w h None k = refl
-next_whole ring w h (Some number) k = given_whole ring w h number (message_at w.messages number) refl k
+given_to_whole : (ring : Layout) (w : WorldState) (h : History) (id number : ℕ) (o : Option Message) → message_at w.messages number ≡ o → IsWorld ring w h → acted_tear ring w (acts_to id o) ≡ None
+given_to_whole ring w h id number None is k = member_whole ring w h id Rest k tt
+given_to_whole ring w h id number (Some m) is k = member_whole ring w h m.to (Handle (input.Deliver m)) k (in_number w.messages number m is, refl)
+
+next_whole : (ring : Layout) (w : WorldState) (h : History) (id : ℕ) (o : Option ℕ) → IsWorld ring w h → acted_tear ring w (acts_next w id o) ≡ None
+next_whole ring w h id None k = member_whole ring w h id Rest k tt
+next_whole ring w h id (Some number) k = given_to_whole ring w h id number (message_at w.messages number) refl k
 
 at_whole : (ring : Layout) (w : WorldState) (h : History) (id : ℕ) (i : Input) → IsWorld ring w h → acted_tear ring w (acts_at id i) ≡ None
-at_whole ring w h id (input.Deliver m) k = refl
+at_whole ring w h id (input.Deliver m) k = member_whole ring w h id Rest k tt
 at_whole ring w h id input.Elect k = member_whole ring w h id (Handle input.Elect) k tt
 at_whole ring w h id input.Beat k = member_whole ring w h id (Handle input.Beat) k tt
 at_whole ring w h id (input.Write client changes) k = member_whole ring w h id (Handle (input.Write client changes)) k tt
@@ -300,9 +335,9 @@ at_whole ring w h id (input.Cancel client) k = member_whole ring w h id (Handle 
 pub line_whole : (ring : Layout) (w : WorldState) (h : History) (l : Line) → IsWorld ring w h → acted_tear ring w (acting w l) ≡ None
 line_whole ring w h (line.At node i) k = at_whole ring w h node i k
 line_whole ring w h (line.Give number) k = given_whole ring w h number (message_at w.messages number) refl k
-line_whole ring w h (line.Next node) k = next_whole ring w h (next_to w node) k
-line_whole ring w h (line.Skip node) k = refl
-line_whole ring w h (line.Again node) k = given_whole ring w h (w.cursors node) (message_at w.messages (w.cursors node)) refl k
+line_whole ring w h (line.Next node) k = next_whole ring w h node (next_to w node) k
+line_whole ring w h (line.Skip node) k = member_whole ring w h node Rest k tt
+line_whole ring w h (line.Again node) k = given_to_whole ring w h node (w.cursors node) (message_at w.messages (w.cursors node)) refl k
 line_whole ring w h (line.Crash node) k = member_whole ring w h node GoDown k tt
 line_whole ring w h (line.Restart node) k = member_whole ring w h node ComeUp k tt
 

@@ -5,7 +5,7 @@ use Rattle.std.proofs.lemmas.List.{append-nil}
 use Rattle.std.specs.List.{Contains}
 use Rattle.ring_types.specs.declared.entries.Entry.{Entry}
 use Rattle.ring_types.specs.Rings.{Layout, region_of}
-use Rattle.ring_model.specs.Safety.{Agree, AppliedPrefix, ChosenByLeader, ChosenOnlyGrows, EveryRunCoversLeaders, EveryRunIsSafeSoFar, LeadersHave, LogsMatch, NeverTorn, OneLeaderATerm, ToldStands, needed_by}
+use Rattle.ring_model.specs.Safety.{Agree, AppliedPrefix, ChosenByLeader, ChosenGrows, ChosenOnlyGrows, EveryRunCoversLeaders, LeadersHave, LogsMatch, NeverTorn, OneLeaderATerm, ToldStands, needed_by}
 use Rattle.ring_model.specs.declared.nodes.Durable.{Durable}
 use Rattle.ring_model.specs.Runs.{Election, Move, acting, elections, elections_from, event_elections, world, world_from}
 use Rattle.ring_model.specs.Worlds.{WorldState, first_world, world_step}
@@ -142,8 +142,17 @@ leaders_have ring run before after i j s o is up leads le =
     subst (λ (b : List Entry). Agree s.commit d.log b) (sym book)
     (sealed_in_book ring t.new d.term s.commit e.term d.log y.election t.new_world.history y.led y.of_term le (t.sealed d.term s.commit d.log (t.old_world.running i s up).sealed))
 
-pub every_run_is_safe_so_far : EveryRunIsSafeSoFar
-every_run_is_safe_so_far ring run lawful = record {
+-- the facts that need nothing of rows and prepared pairs
+pub record SafeLogs (ring : Layout) (run : List Move) : Type 0 where
+  pub applied_prefix : AppliedPrefix (world ring run)
+  pub told_stands : ToldStands (world ring run)
+  pub one_leader_a_term : OneLeaderATerm (world ring run) (elections ring run)
+  pub logs_match : LogsMatch (world ring run)
+  pub chosen_grows : ChosenGrows ring run
+  pub leaders_have : LeadersHave ring run
+
+pub safe_logs : (ring : Layout) (run : List Move) → SafeLogs ring run
+safe_logs ring run = record {
   applied_prefix = applied_prefix ring run;
   told_stands = told_stand ring run;
   one_leader_a_term = one_leader_a_term ring run;

@@ -9,7 +9,7 @@ use Rattle.ring_types.specs.Rings.{Layout, is_member}
 use Rattle.ring_model.specs.Actions.{done}
 use Rattle.ring_model.specs.Nodes.{Node, is_leader}
 use Rattle.ring_model.specs.Dispatch.{step, tear_of}
-use Rattle.ring_model.specs.Worlds.{WorldState, Completion, Whole, Cut, Task, Handle, GoDown, ComeUp, world_step, first_world, message_at, next_to, restart_actions}
+use Rattle.ring_model.specs.Worlds.{WorldState, Completion, Whole, Cut, Task, Handle, GoDown, ComeUp, Rest, world_step, first_world, message_at, next_to, restart_actions}
 use Rattle.ring_model.specs.declared.nodes.Durable.{Durable}
 use Rattle.ring_model.specs.declared.nodes.Soft.{Soft}
 use Rattle.ring_model.specs.declared.effects.Action.{Action}
@@ -47,20 +47,26 @@ abbrev pub acts_on : Option Message → Option (ℕ × Task)
 acts_on None = None
 acts_on (Some m) = Some (m.to, Handle (input.Deliver m))
 
-abbrev pub acts_on_number : WorldState → Option ℕ → Option (ℕ × Task)
-acts_on_number w None = None
-acts_on_number w (Some number) = acts_on (message_at w.messages number)
+-- the message that is due at a node, or nothing
+abbrev pub acts_to : ℕ → Option Message → Option (ℕ × Task)
+acts_to node None = Some (node, Rest)
+acts_to node (Some m) = Some (m.to, Handle (input.Deliver m))
+
+abbrev pub acts_next : WorldState → ℕ → Option ℕ → Option (ℕ × Task)
+acts_next w node None = Some (node, Rest)
+acts_next w node (Some number) = acts_to node (message_at w.messages number)
 
 abbrev pub acts_at : ℕ → Input → Option (ℕ × Task)
-acts_at node (input.Deliver m) = None
+acts_at node (input.Deliver m) = Some (node, Rest)
 acts_at node i = Some (node, Handle i)
 
+-- the node that a line names acts, also where nothing is due at it
 abbrev pub acting : WorldState → Line → Option (ℕ × Task)
 acting w (line.At node i) = acts_at node i
 acting w (line.Give number) = acts_on (message_at w.messages number)
-acting w (line.Next node) = acts_on_number w (next_to w node)
-acting w (line.Skip node) = None
-acting w (line.Again node) = acts_on (message_at w.messages (w.cursors node))
+acting w (line.Next node) = acts_next w node (next_to w node)
+acting w (line.Skip node) = Some (node, Rest)
+acting w (line.Again node) = acts_to node (message_at w.messages (w.cursors node))
 acting w (line.Crash node) = Some (node, GoDown)
 acting w (line.Restart node) = Some (node, ComeUp)
 
@@ -84,6 +90,8 @@ is_known ring w (line.Restart node) = is_member ring node
 abbrev pub actions_of : Layout → ℕ → Durable → Option Soft → Task → Option (List Action)
 actions_of ring id d (Some s) (Handle given) = Some (step ring id d s given).plan.actions
 actions_of ring id d None (Handle given) = None
+actions_of ring id d (Some s) Rest = Some []
+actions_of ring id d None Rest = None
 actions_of ring id d soft GoDown = None
 actions_of ring id d soft ComeUp = Some (restart_actions d)
 
@@ -114,6 +122,7 @@ tear_at ring id d (Some s) (Handle given) = tear_of ring id d s given
 tear_at ring id d None (Handle given) = None
 tear_at ring id d soft GoDown = None
 tear_at ring id d soft ComeUp = None
+tear_at ring id d soft Rest = None
 
 abbrev pub acted_tear : Layout → WorldState → Option (ℕ × Task) → Option Tear
 acted_tear ring w None = None
@@ -151,6 +160,7 @@ held_at ring id d (Some s) (Handle given) completion = held_by id d s (step ring
 held_at ring id d None (Handle given) completion = []
 held_at ring id d soft GoDown completion = []
 held_at ring id d soft ComeUp completion = []
+held_at ring id d soft Rest completion = []
 
 abbrev pub acted_elections : Layout → WorldState → Completion → Option (ℕ × Task) → List Election
 acted_elections ring w completion None = []

@@ -1,4 +1,4 @@
--- What it is for a run to be safe: seven facts of its worlds. They are stated here; docs and contracts say which are proved.
+-- What it is for a run to be safe: seven facts of its worlds, and what committed entries are to later leaders.
 use Rattle.std.specs.Prelude.{◌≡◌, ℕ, zero, suc, ◌+◌, ◌<◌, ◌≤◌, Bool, true, false, List, [], ◌∷◌, ◌++◌, length, take, Option, Some, None, slice_get}
 use Rattle.std.specs.List.{Contains}
 use Rattle.ring_types.specs.declared.entries.Entry.{Entry}
@@ -81,7 +81,14 @@ pub record ChosenGrows (ring : Layout) (run : List Move) : Type 0 where
   pub by_leader : ChosenByLeader ring run
   pub never_torn : NeverTorn ring run
 
--- a run is safe
+-- what a running node committed stands in the log of each leader of the same or a later term, at once and after any further events
+abbrev pub LeadersHave : Layout → List Move → Type 0
+LeadersHave ring run = (before after : List Move) (i j : ℕ) (s o : Soft) → run ≡ before ++ after
+    → Runs (world ring before) i s → Leads (world ring run) j o
+    → ((world ring before).nodes i).durable.term ≤ ((world ring run).nodes j).durable.term
+    → Agree s.commit ((world ring before).nodes i).durable.log ((world ring run).nodes j).durable.log
+
+-- a run is safe: the seven facts, and what committed entries are to later leaders
 pub record Safe (ring : Layout) (run : List Move) : Type 0 where
   pub applied_prefix : AppliedPrefix (world ring run)
   pub told_stands : ToldStands (world ring run)
@@ -90,31 +97,12 @@ pub record Safe (ring : Layout) (run : List Move) : Type 0 where
   pub chosen_is_valid : ChosenIsValid ring (world ring run)
   pub logs_match : LogsMatch (world ring run)
   pub chosen_grows : ChosenGrows ring run
+  pub leaders_have : LeadersHave ring run
 
 -- ---- over time
 -- for every ring and every run of it
 abbrev pub EveryRunIsSafe : Type 0
 EveryRunIsSafe = (ring : Layout) (run : List Move) → IsRun ring run → Safe ring run
-
--- what a running node committed stands in the log of each leader of the same or a later term, at once and after any further events
-abbrev pub LeadersHave : Layout → List Move → Type 0
-LeadersHave ring run = (before after : List Move) (i j : ℕ) (s o : Soft) → run ≡ before ++ after
-    → Runs (world ring before) i s → Leads (world ring run) j o
-    → ((world ring before).nodes i).durable.term ≤ ((world ring run).nodes j).durable.term
-    → Agree s.commit ((world ring before).nodes i).durable.log ((world ring run).nodes j).durable.log
-
--- the clauses of Safe that need no rows, and what committed entries are to later leaders
-pub record SafeSoFar (ring : Layout) (run : List Move) : Type 0 where
-  pub applied_prefix : AppliedPrefix (world ring run)
-  pub told_stands : ToldStands (world ring run)
-  pub one_leader_a_term : OneLeaderATerm (world ring run) (elections ring run)
-  pub logs_match : LogsMatch (world ring run)
-  pub chosen_grows : ChosenGrows ring run
-  pub leaders_have : LeadersHave ring run
-
--- for every ring and every run of it
-abbrev pub EveryRunIsSafeSoFar : Type 0
-EveryRunIsSafeSoFar = (ring : Layout) (run : List Move) → IsRun ring run → SafeSoFar ring run
 
 -- ---- the cover of earlier leaders
 -- the term of the last entry before an election

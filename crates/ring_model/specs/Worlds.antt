@@ -39,11 +39,12 @@ pub data Completion : Type 0 where
   Whole : Completion
   Cut : (count : ℕ) → Completion
 
--- what an event makes the acting node do
+-- what an event makes the acting node do; Rest is nothing, at a node for which there was nothing to handle
 pub data Task : Type 0 where
   Handle : (given : Input) → Task
   GoDown : Task
   ComeUp : Task
+  Rest : Task
 
 -- ---- the chosen sequence
 -- how far a node shows that it went: its commit count, or its applied count while it is down
@@ -98,10 +99,16 @@ abbrev pub restarted : WorldState → ℕ → Durable → Completion → WorldSt
 restarted w id d Whole = turned w id (record { durable = recover d; soft = Some (fresh_soft d) }) [] [] []
 restarted w id d (Cut count) = turned w id (record { durable = all_done d (take count (restart_actions d)); soft = None }) [] [] (count ∷ [])
 
+-- nothing is due at the node, and its disk may stop all the same
+abbrev pub rested : WorldState → ℕ → Durable → Completion → WorldState
+rested w id d Whole = passed w
+rested w id d (Cut count) = turned w id (record { durable = d; soft = None }) [] [] (count ∷ [])
+
 abbrev pub turn : Layout → WorldState → ℕ → Task → Completion → WorldState
 turn ring w id (Handle given) completion = handled ring w id given completion (w.nodes id).durable (w.nodes id).soft
 turn ring w id GoDown completion = turned w id (record { durable = (w.nodes id).durable; soft = None }) [] [] []
 turn ring w id ComeUp completion = restarted w id (w.nodes id).durable completion
+turn ring w id Rest completion = rested w id (w.nodes id).durable completion
 
 -- ---- which node an event makes act
 -- the message of a number counted from 1
@@ -131,26 +138,32 @@ abbrev pub given : Layout → WorldState → Completion → Option Message → W
 given ring w completion None = passed w
 given ring w completion (Some m) = member_turn ring w m.to (Handle (input.Deliver m)) completion
 
--- the next message is given, and the cursor moves there, also when the node is down
-abbrev pub next_given : Layout → WorldState → ℕ → Completion → Option ℕ → WorldState
-next_given ring w id completion None = passed w
-next_given ring w id completion (Some number) = given ring (moved w id number) completion (message_at w.messages number)
+-- the message that is due at a node is given to it; with none, nothing is due
+abbrev pub given_to : Layout → WorldState → ℕ → Completion → Option Message → WorldState
+given_to ring w id completion None = member_turn ring w id Rest completion
+given_to ring w id completion (Some m) = member_turn ring w m.to (Handle (input.Deliver m)) completion
 
-abbrev pub skipped : WorldState → ℕ → Option ℕ → WorldState
-skipped w id None = passed w
-skipped w id (Some number) = passed (moved w id number)
+-- the next message is given, and the cursor moves there first, also when the node is down
+abbrev pub next_given : Layout → WorldState → ℕ → Completion → Option ℕ → WorldState
+next_given ring w id completion None = member_turn ring w id Rest completion
+next_given ring w id completion (Some number) = given_to ring (moved w id number) id completion (message_at w.messages number)
+
+-- the cursor moves, and the message is not given
+abbrev pub skipped : Layout → WorldState → ℕ → Completion → Option ℕ → WorldState
+skipped ring w id completion None = member_turn ring w id Rest completion
+skipped ring w id completion (Some number) = member_turn ring (moved w id number) id Rest completion
 
 -- messages are given from the list alone
 abbrev pub at_node : Layout → WorldState → ℕ → Input → Completion → WorldState
-at_node ring w id (input.Deliver m) completion = passed w
+at_node ring w id (input.Deliver m) completion = member_turn ring w id Rest completion
 at_node ring w id i completion = member_turn ring w id (Handle i) completion
 
 abbrev pub line_step : Layout → WorldState → Completion → Line → WorldState
 line_step ring w completion (line.At node i) = at_node ring w node i completion
 line_step ring w completion (line.Give number) = given ring w completion (message_at w.messages number)
 line_step ring w completion (line.Next node) = next_given ring w node completion (next_to w node)
-line_step ring w completion (line.Skip node) = skipped w node (next_to w node)
-line_step ring w completion (line.Again node) = given ring w completion (message_at w.messages (w.cursors node))
+line_step ring w completion (line.Skip node) = skipped ring w node completion (next_to w node)
+line_step ring w completion (line.Again node) = given_to ring w node completion (message_at w.messages (w.cursors node))
 line_step ring w completion (line.Crash node) = member_turn ring w node GoDown completion
 line_step ring w completion (line.Restart node) = member_turn ring w node ComeUp completion
 
