@@ -4,7 +4,7 @@ use Rattle.std.proofs.lemmas.List.Elements.{Contains-append_right}
 use Rattle.std.specs.List.{Contains}
 use Rattle.ring_types.specs.declared.entries.Entry.{Entry}
 use Rattle.ring_types.specs.Logs.{term_at}
-use Rattle.ring_types.specs.Rings.{Layout, runs_engine}
+use Rattle.ring_types.specs.Rings.{IsRing, Layout, runs_engine}
 use Rattle.ring_model.specs.declared.effects.Action.{Action}
 use Rattle.ring_model.specs.declared.effects.Action.TheVariants as action
 use Rattle.ring_model.specs.declared.messages.Body.{Body}
@@ -18,7 +18,7 @@ use Rattle.ring_types.specs.declared.values.Change.{Change}
 use Rattle.ring_model.specs.Actions.{all_done, done}
 use Rattle.ring_model.specs.Dispatch.{is_foreign_body, step}
 use Rattle.ring_model.specs.Runs.{Election, IsRun, IsRunFrom, Move, acting, world, world_from}
-use Rattle.ring_model.specs.Worlds.{ComeUp, GoDown, Handle, Task, WorldState, first_world, world_step}
+use Rattle.ring_model.specs.Worlds.{ComeUp, GoDown, Handle, Rest, Task, WorldState, first_world, world_step}
 use Rattle.ring_model.specs.Writes.{write_entry, write_refusal}
 use Rattle.ring_model.proofs.Invariant.{History, IsBookedLog, IsHistory, IsNode, IsRunning, IsSealed, IsSent, Nothing_yet, Sealed_at}
 use Rattle.ring_model.proofs.Lists.{none_contained}
@@ -27,10 +27,10 @@ use Rattle.ring_model.proofs.Turns.{IsWorld}
 use Rattle.ring_model.proofs.Dispatch.{IsGiven, names_other, step_row}
 use Rattle.ring_model.proofs.Events.{OnWay, event_over, first_history, first_holds}
 use Rattle.ring_lawful.proofs.Along.{Allowed}
-use Rattle.ring_lawful.proofs.Carry.{Holds, event_holds, first_keeps}
+use Rattle.ring_lawful.proofs.Carry.{IsFit, event_fits, first_fits}
 use Rattle.ring_lawful.proofs.EngineSteps.{EngineRuns}
 use Rattle.ring_lawful.proofs.Growing.{Foreign, InputIsLed, KeptByPlain, MayGrow, step_logs}
-use Rattle.ring_lawful.proofs.Prepared as prepared
+use Rattle.ring_lawful.proofs.Parts.{runs_from}
 
 -- the property holds of the book of each led term
 abbrev pub BooksHold : (List Entry → Type 0) → History → Type 0
@@ -156,15 +156,14 @@ module _ (ring : Layout) (P : List Entry → Type 0) (kept : IsKept ring P) wher
       log_holds c.0 (all_done d (take n st.plan.actions)).term (all_done d (take n st.plan.actions)).log z y.node.log
 
   -- ---- events and runs
-  abbrev Engines : WorldState → Type 0
-  Engines w = Holds (prepared.Engine ring) (prepared.Running ring) prepared.Nothing w
-
-  on_way_holds : (w : WorldState) (h : History) (acted : Option (ℕ × Task)) (l : List Entry) → IsWorld ring w h → Engines w → BooksHold P h → OnWay ring w acted l → P l
+  on_way_holds : (w : WorldState) (h : History) (acted : Option (ℕ × Task)) (l : List Entry) → IsWorld ring w h → IsFit ring w → BooksHold P h → OnWay ring w acted l → P l
   on_way_holds w h None l k x b y = absurd y
   on_way_holds w h (Some (id, Handle i)) l k x b y =
-      subst P (sym y.3.1) (way_holds h id (w.nodes id).durable y.0 i y.3.0 k.history (k.nodes id) (k.running id y.0 y.1) (subst (λ (ms : List Message). IsGiven ms id i) (sym k.messages) y.2) (x.running id y.0 y.1) b)
+      subst P (sym y.3.1)
+      (way_holds h id (w.nodes id).durable y.0 i y.3.0 k.history (k.nodes id) (k.running id y.0 y.1) (subst (λ (ms : List Message). IsGiven ms id i) (sym k.messages) y.2) (λ runs. runs_from ring id (w.nodes id).durable y.0 (x.running id y.0 y.1).0 runs) b)
   on_way_holds w h (Some (id, GoDown)) l k x b y = subst P (sym y) (log_holds h (w.nodes id).durable.term (w.nodes id).durable.log b (k.nodes id).log)
   on_way_holds w h (Some (id, ComeUp)) l k x b y = subst P (sym y) (log_holds h (w.nodes id).durable.term (w.nodes id).durable.log b (k.nodes id).log)
+  on_way_holds w h (Some (id, Rest)) l k x b y = subst P (sym y) (log_holds h (w.nodes id).durable.term (w.nodes id).durable.log b (k.nodes id).log)
 
   -- a history of the world whose books have the property
   pub record Booked (w : WorldState) : Type 0 where
@@ -172,17 +171,16 @@ module _ (ring : Layout) (P : List Entry → Type 0) (kept : IsKept ring P) wher
     pub world : IsWorld ring w history
     pub books : BooksHold P history
 
-  run_books : (w : WorldState) (h : History) (run : List Move) → IsRunFrom ring w run → IsWorld ring w h → Engines w → BooksHold P h → Booked (world_from ring w run)
+  run_books : (w : WorldState) (h : History) (run : List Move) → IsRunFrom ring w run → IsWorld ring w h → IsFit ring w → BooksHold P h → Booked (world_from ring w run)
   run_books w h [] is k x b = record { history = h; world = k; books = b }
   run_books w h (m ∷ run) is k x b =
       let c = event_over ring w h m k in
       let books : BooksHold P c.after = λ e in_e. elim (c.books e in_e) [ inl old ↦ subst P (sym old.1) (b e old.0) | inr new ↦ on_way_holds w h (acting w m.event.what) (c.after.book e.term) k x b new ] in
-      run_books (world_step ring w m.event m.completion) c.after run is.2 c.world
-      (event_holds ring (prepared.Engine ring) (prepared.Running ring) prepared.Nothing (prepared.engine_kept ring) w h m k is.0 x) books
+      run_books (world_step ring w m.event m.completion) c.after run is.2 c.world (event_fits ring w m is.0 x) books
 
-  pub booked : (run : List Move) → IsRun ring run → Booked (world ring run)
+  pub booked : (run : List Move) → IsRing ring → IsRun ring run → Booked (world ring run)
   unfolding world
-  booked run is = run_books first_world first_history run is (first_holds ring) (first_keeps ring (prepared.Engine ring) (prepared.Running ring) prepared.Nothing (prepared.engine_kept ring)) (λ e in_e. absurd (none_contained e in_e))
+  booked run valid is = run_books first_world first_history run is (first_holds ring valid) (first_fits ring) (λ e in_e. absurd (none_contained e in_e))
 
   sealed_holds : (h : History) (u : ℕ) (l : List Entry) → BooksHold P h → IsSealed ring h u (length l) l → P l
   sealed_holds h u [] b x = kept.none
@@ -192,12 +190,12 @@ module _ (ring : Layout) (P : List Entry → Type 0) (kept : IsKept ring P) wher
       subst P (sym y.same ∙ take_all (e ∷ l)) (kept.begins (length (e ∷ l)) (h.book s) q)
 
   -- the chosen sequence has the property
-  pub chosen_holds : (run : List Move) → IsRun ring run → P (world ring run).chosen
-  chosen_holds run is =
-      let x = booked run is in
+  pub chosen_holds : (run : List Move) → IsRing ring → IsRun ring run → P (world ring run).chosen
+  chosen_holds run valid is =
+      let x = booked run valid is in
       let c = x.world.history.chosen in
       subst P x.world.chosen (sealed_holds x.history c.0 x.history.chosen x.books c.1)
 
   -- and so has each node's log
-  pub logs_hold : (run : List Move) → IsRun ring run → (id : ℕ) → P ((world ring run).nodes id).durable.log
-  logs_hold run is id = let x = booked run is in log_holds x.history ((world ring run).nodes id).durable.term ((world ring run).nodes id).durable.log x.books (x.world.nodes id).log
+  pub logs_hold : (run : List Move) → IsRing ring → IsRun ring run → (id : ℕ) → P ((world ring run).nodes id).durable.log
+  logs_hold run valid is id = let x = booked run valid is in log_holds x.history ((world ring run).nodes id).durable.term ((world ring run).nodes id).durable.log x.books (x.world.nodes id).log

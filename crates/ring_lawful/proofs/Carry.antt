@@ -1,176 +1,183 @@
--- What each step of a running node keeps holds in every world of every run: one induction for every such fact, over the model's own invariant.
-use Rattle.std.proofs.Common.{◌≡◌, ℕ, [], ◌∷◌, ◌++◌, ◌∙◌, if◌then◌else◌, Bool, List, None, Option, Some, ap, arith, false, inl, inr, refl, subst, suc, sym, take, true, zero}
+-- In every world of every run each node is fit and each message well formed: the laws of each step, carried along a run by one induction.
+use Rattle.std.proofs.Common.{◌≡◌, ℕ, [], ◌∷◌, ◌∙◌, if◌then◌else◌, Bool, List, None, Option, Some, ap, arith, false, inl, inr, refl, subst, suc, sym, take, true, zero}
 use Rattle.std.proofs.lemmas.Bool.{cases_eq}
+use Rattle.std.proofs.lemmas.Bool.Decides.{nat_tests}
+use Rattle.std.proofs.lemmas.List.Elements.{Contains-append_cases}
 use Rattle.std.specs.List.{Contains}
+use Rattle.ring_types.specs.declared.entries.Opid.{Opid}
 use Rattle.ring_types.specs.Rings.{Layout, is_member}
-use Rattle.ring_model.specs.Worlds.{ComeUp, Completion, Cut, GoDown, Handle, Task, Whole, WorldState, at_node, ended, first_world, given, handled, line_step, member_turn, message_at, moved, next_given, next_to, passed, restart_actions, skipped, turn, turned, with_node, world_step}
-use Rattle.ring_model.specs.declared.nodes.Durable.{Durable}
-use Rattle.ring_model.specs.Runs.{IsRun, IsRunFrom, Move, is_known, is_whole_input, world, world_from}
-use Rattle.ring_model.specs.declared.messages.Input.{Input}
-use Rattle.ring_model.specs.declared.worlds.Line.{Line}
-use Rattle.ring_model.specs.declared.messages.Message.{Message}
-use Rattle.ring_model.specs.Nodes.{Node, empty_durable, fresh_soft, recover}
-use Rattle.ring_model.specs.declared.nodes.Soft.{Soft}
+use Rattle.ring_types.specs.Rows.{payloads_fit}
+use Rattle.ring_model.specs.declared.effects.Action.TheVariants as action
 use Rattle.ring_model.specs.declared.effects.Say.{Say}
-use Rattle.ring_model.specs.declared.effects.Step.{Step}
+use Rattle.ring_model.specs.declared.messages.Input.{Input}
+use Rattle.ring_model.specs.declared.messages.Input.TheVariants as input
+use Rattle.ring_model.specs.declared.messages.Message.{Message}
+use Rattle.ring_model.specs.declared.nodes.Durable.{Durable}
+use Rattle.ring_model.specs.declared.nodes.Soft.{Soft}
+use Rattle.ring_model.specs.declared.worlds.Line.{Line}
+use Rattle.ring_model.specs.declared.worlds.Line.TheVariants as line
 use Rattle.ring_model.specs.Actions.{all_done}
 use Rattle.ring_model.specs.Dispatch.{step}
-use Rattle.ring_model.specs.declared.messages.Input.TheVariants as input
-use Rattle.ring_model.specs.declared.worlds.Line.TheVariants as line
+use Rattle.ring_model.specs.Nodes.{Node, empty_durable, fresh_soft, recover, stray_opids}
+use Rattle.ring_model.specs.Runs.{IsRun, IsRunFrom, Move, is_known, is_whole_input, world, world_from}
+use Rattle.ring_model.specs.WellFormed.{IsNearlyWellFormed}
+use Rattle.ring_model.specs.Worlds.{ComeUp, Completion, Cut, GoDown, Handle, Rest, Task, Whole, WorldState, at_node, first_world, given, given_to, handled, line_step, member_turn, message_at, moved, next_given, next_to, passed, restart_actions, skipped, turn, turned, with_node, world_step}
 use Rattle.ring_model.proofs.Lists.{both_true, none_contained}
-use Rattle.ring_model.proofs.Invariant.{History, IsHistory, IsNode, IsRunning}
-use Rattle.ring_model.proofs.Turns.{IsWorld, node_here, node_other}
-use Rattle.ring_model.proofs.Dispatch.{IsGiven}
-use Rattle.ring_model.proofs.Events.{MayTake, event_over, first_history, first_holds, same_world}
+use Rattle.ring_model.proofs.Turns.{node_here, node_other}
+use Rattle.ring_lawful.specs.EachStep.{IsFitNode, IsFitPart, IsGood}
+use Rattle.ring_lawful.proofs.EachStep.{every_step_is_possible, every_step_keeps_lawful}
+use Rattle.ring_lawful.proofs.Recovery.{empty_sound, partly_sound, recovery_lawful}
+use Rattle.ring_lawful.proofs.StepSends.{every_step_sends_well_formed}
 
--- what a step leaves: of the node however far it went, of the running node, and of what it sends
-pub record StepKeeps (D : Durable → Type 0) (R : Durable → Soft → Type 0) (M : Message → Type 0) (d : Durable) (st : Step) : Type 0 where
-  pub cut : (n : ℕ) → D (all_done d (take n st.plan.actions))
-  pub whole : D (all_done d st.plan.actions)
-  pub soft : R (all_done d st.plan.actions) st.soft
-  pub sent : (m : Message) → Contains st.plan.messages m → M m
+-- in one world: each durable part is fit, each running node too, and each message is well formed but for a proxy's sum of bytes
+pub record IsFit (ring : Layout) (w : WorldState) : Type 0 where
+  pub nodes : (id : ℕ) → IsFitPart ring id (w.nodes id).durable
+  pub running : (id : ℕ) (s : Soft) → (w.nodes id).soft ≡ Some s → IsFitNode ring id (w.nodes id).durable s
+  pub messages : (m : Message) → Contains w.messages m → IsNearlyWellFormed ring.schema m
 
--- a fact of durable parts, one of running nodes and one of messages that every step keeps
-pub record IsKeptByAll (ring : Layout) (D : ℕ → Durable → Type 0) (R : ℕ → Durable → Soft → Type 0) (M : Message → Type 0) : Type 0 where
-  pub first : (id : ℕ) → D id empty_durable
-  pub steps : (h : History) (id : ℕ) (d : Durable) (s : Soft) (i : Input) → IsHistory ring h → IsNode ring h id d → IsRunning ring h id d s → IsGiven h.messages id i → is_whole_input i ≡ true
-      → ((m : Message) → Contains h.messages m → M m) → D id d → R id d s → StepKeeps (D id) (R id) M d (step ring id d s i)
-  pub recovers : (h : History) (id : ℕ) (d : Durable) → IsNode ring h id d → D id d → D id (recover d)
-  pub partly : (h : History) (id : ℕ) (d : Durable) (n : ℕ) → IsNode ring h id d → D id d → D id (all_done d (take n (restart_actions d)))
-  pub starts : (h : History) (id : ℕ) (d : Durable) → IsNode ring h id d → D id d → R id (recover d) (fresh_soft d)
-
--- in one world
-pub record Holds (D : ℕ → Durable → Type 0) (R : ℕ → Durable → Soft → Type 0) (M : Message → Type 0) (w : WorldState) : Type 0 where
-  pub nodes : (id : ℕ) → D id (w.nodes id).durable
-  pub running : (id : ℕ) (s : Soft) → (w.nodes id).soft ≡ Some s → R id (w.nodes id).durable s
-  pub messages : (m : Message) → Contains w.messages m → M m
-
--- a write that a task gives has a change
-abbrev IsWhole : Task → Type 0
-IsWhole (Handle i) = is_whole_input i ≡ true
-IsWhole GoDown = Unit {0}
-IsWhole ComeUp = Unit {0}
-
-in_join : {X : Type 0} (xs ys : List X) (x : X) (P : X → Type 0) → ((y : X) → Contains xs y → P y) → ((y : X) → Contains ys y → P y) → Contains (xs ++ ys) x → P x
-in_join [] ys x P a b c = b x c
-in_join (z ∷ xs) ys x P a b (zero, lt, is) = subst P (let e : z ≡ x = cc in e) (a z (zero, omega arith, refl))
-in_join (z ∷ xs) ys x P a b (suc k, lt, is) = in_join xs ys x P (λ y c. a y (suc c.0, omega (arith, c.1), c.2)) b (k, omega arith, is)
-
+-- ---- what a line gives
 in_number : (ms : List Message) (k : ℕ) (m : Message) → message_at ms k ≡ Some m → Contains ms m
 in_number ms zero m is = absurd cc
 in_number [] (suc k) m is = absurd cc
 in_number (x ∷ ms) (suc zero) m is = (zero, omega arith, cc)
 in_number (x ∷ ms) (suc (suc k)) m is = let y = in_number ms (suc k) m is in (suc y.0, omega (arith, y.1), y.2)
 
-module _ (ring : Layout) (D : ℕ → Durable → Type 0) (R : ℕ → Durable → Soft → Type 0) (M : Message → Type 0) (all : IsKeptByAll ring D R M) where
-  turned_holds : (w : WorldState) (id : ℕ) (n : Node) (ms : List Message) (says : List Say) (cuts : List ℕ) → Holds D R M w → D id n.durable → ((s : Soft) → n.soft ≡ Some s → R id n.durable s)
-      → ((m : Message) → Contains ms m → M m) → Holds D R M (turned w id n ms says cuts)
-  turned_holds w id n ms says cuts k node running sent = record {
+-- an input that a task gives is good
+abbrev IsGoodTask : Layout → Task → Type 0
+IsGoodTask ring (Handle i) = IsGood ring i
+IsGoodTask ring GoDown = Unit {0}
+IsGoodTask ring ComeUp = Unit {0}
+IsGoodTask ring Rest = Unit {0}
+
+-- ---- a restart that was cut
+partly_payloads : (ring : Layout) (d : Durable) (n : ℕ) (o : List Opid) → payloads_fit ring.schema d.log ≡ true → payloads_fit ring.schema (all_done d (take n (elim o [ [] ↦ [] | o ∷ opids ↦ action.DropPairs (o ∷ opids) ∷ [] ]))).log ≡ true
+partly_payloads ring d zero [] x = x
+partly_payloads ring d (suc n) [] x = x
+partly_payloads ring d zero (o ∷ opids) x = x
+partly_payloads ring d (suc zero) (o ∷ opids) x = x
+partly_payloads ring d (suc (suc n)) (o ∷ opids) x = x
+
+-- ---- events
+module _ (ring : Layout) where
+  turned_fits : (w : WorldState) (id : ℕ) (n : Node) (ms : List Message) (says : List Say) (cuts : List ℕ) → IsFit ring w → IsFitPart ring id n.durable → ((s : Soft) → n.soft ≡ Some s → IsFitNode ring id n.durable s)
+      → ((m : Message) → Contains ms m → IsNearlyWellFormed ring.schema m) → IsFit ring (turned w id n ms says cuts)
+  turned_fits w id n ms says cuts x node running sent = record {
     nodes = λ j. elim (cases_eq j id) [
-      | inl same ↦ subst (λ (i : ℕ). D i (with_node w.nodes id n i).durable) (sym same) (subst (λ (m : Node). D id m.durable) (sym (node_here w.nodes id n)) node)
-      | inr other ↦ subst (λ (m : Node). D j m.durable) (sym (node_other w.nodes id j n other)) (k.nodes j)
+      | inl same ↦ subst (λ (i : ℕ). IsFitPart ring i (with_node w.nodes id n i).durable) (sym same) (subst (λ (m : Node). IsFitPart ring id m.durable) (sym (node_here w.nodes id n)) node)
+      | inr other ↦ subst (λ (m : Node). IsFitPart ring j m.durable) (sym (node_other w.nodes id j n other)) (x.nodes j)
     ];
     running = λ j s up. elim (cases_eq j id) [
       | inl same ↦
           let up' : (with_node w.nodes id n id).soft ≡ Some s = subst (λ (i : ℕ). (with_node w.nodes id n i).soft ≡ Some s) same up in
           let so : n.soft ≡ Some s = sym (ap (λ (m : Node). m.soft) (node_here w.nodes id n)) ∙ up' in
-          subst (λ (i : ℕ). R i (with_node w.nodes id n i).durable s) (sym same) (subst (λ (m : Node). R id m.durable s) (sym (node_here w.nodes id n)) (running s so))
+          subst (λ (i : ℕ). IsFitNode ring i (with_node w.nodes id n i).durable s) (sym same) (subst (λ (m : Node). IsFitNode ring id m.durable s) (sym (node_here w.nodes id n)) (running s so))
       | inr other ↦
           let was : (w.nodes j).soft ≡ Some s = sym (ap (λ (m : Node). m.soft) (node_other w.nodes id j n other)) ∙ up in
-          subst (λ (m : Node). R j m.durable s) (sym (node_other w.nodes id j n other)) (k.running j s was)
+          subst (λ (m : Node). IsFitNode ring j m.durable s) (sym (node_other w.nodes id j n other)) (x.running j s was)
     ];
-    messages = λ m in_m. in_join w.messages ms m M k.messages sent in_m;
+    messages = λ m in_m. elim (Contains-append_cases w.messages ms m in_m) [ inl old ↦ x.messages m old | inr new ↦ sent m new ];
   }
 
-  same_holds : (w v : WorldState) → v.nodes ≡ w.nodes → v.messages ≡ w.messages → Holds D R M w → Holds D R M v
-  same_holds w v nodes messages k = record {
-    nodes = λ id. subst (λ (f : ℕ → Node). D id (f id).durable) (sym nodes) (k.nodes id);
-    running = subst (λ (f : ℕ → Node). (id : ℕ) (s : Soft) → (f id).soft ≡ Some s → R id (f id).durable s) (sym nodes) k.running;
-    messages = subst (λ (ms : List Message). (m : Message) → Contains ms m → M m) (sym messages) k.messages;
+  -- a node that is down after its turn
+  downed_fits : (w : WorldState) (id : ℕ) (d : Durable) (cuts : List ℕ) → IsFit ring w → IsFitPart ring id d → IsFit ring (turned w id (record { durable = d; soft = None }) [] [] cuts)
+  downed_fits w id d cuts x node = turned_fits w id (record { durable = d; soft = None }) [] [] cuts x node (λ o so. absurd cc) (λ m in_m. absurd (none_contained m in_m))
+
+  same_fits : (w v : WorldState) → v.nodes ≡ w.nodes → v.messages ≡ w.messages → IsFit ring w → IsFit ring v
+  same_fits w v nodes messages x = record {
+    nodes = λ id. subst (λ (f : ℕ → Node). IsFitPart ring id (f id).durable) (sym nodes) (x.nodes id);
+    running = subst (λ (f : ℕ → Node). (id : ℕ) (s : Soft) → (f id).soft ≡ Some s → IsFitNode ring id (f id).durable s) (sym nodes) x.running;
+    messages = subst (λ (ms : List Message). (m : Message) → Contains ms m → IsNearlyWellFormed ring.schema m) (sym messages) x.messages;
   }
 
-  handled_holds : (w : WorldState) (h : History) (id : ℕ) (i : Input) (completion : Completion) (o : Option Soft) → (w.nodes id).soft ≡ o → IsWorld ring w h → IsGiven w.messages id i → is_whole_input i ≡ true → Holds D R M w
-      → Holds D R M (handled ring w id i completion (w.nodes id).durable o)
-  handled_holds w h id i completion None up k given whole x = same_holds w (passed w) refl refl x
-  handled_holds w h id i completion (Some s) up k given whole x = go completion
+  handled_fits : (w : WorldState) (id : ℕ) (i : Input) (completion : Completion) (o : Option Soft) → (w.nodes id).soft ≡ o → IsGood ring i → IsFit ring w → IsFit ring (handled ring w id i completion (w.nodes id).durable o)
+  handled_fits w id i completion None up g x = same_fits w (passed w) refl refl x
+  handled_fits w id i Whole (Some s) up g x =
+      let d = (w.nodes id).durable in
+      let st = step ring id d s i in
+      let y = every_step_keeps_lawful ring id d s i (x.running id s up) g in
+      turned_fits w id (record { durable = all_done d st.plan.actions; soft = Some st.soft }) st.plan.messages st.plan.says [] x (y.0.sound, y.1)
+      (λ o so. let is : st.soft ≡ o = cc in subst (λ (z : Soft). IsFitNode ring id (all_done d st.plan.actions) z) is y)
+      (λ m in_m. (every_step_sends_well_formed ring id d s i (x.running id s up) g m in_m).0)
+  handled_fits w id i (Cut count) (Some s) up g x =
+      let d = (w.nodes id).durable in
+      downed_fits w id (all_done d (take count (step ring id d s i).plan.actions)) (count ∷ []) x ((every_step_is_possible ring id d s i (x.running id s up) g).1 count)
+
+  turn_fits : (w : WorldState) (id : ℕ) (task : Task) (completion : Completion) → IsGoodTask ring task → IsFit ring w → IsFit ring (turn ring w id task completion)
+  turn_fits w id (Handle i) completion g x = handled_fits w id i completion (w.nodes id).soft refl g x
+  turn_fits w id GoDown completion g x = downed_fits w id (w.nodes id).durable [] x (x.nodes id)
+  turn_fits w id ComeUp Whole g x =
+      let d = (w.nodes id).durable in
+      let y : IsFitNode ring id (recover d) (fresh_soft d) = (recovery_lawful ring id d (x.nodes id).0, (x.nodes id).1) in
+      turned_fits w id (record { durable = recover d; soft = Some (fresh_soft d) }) [] [] [] x (y.0.sound, y.1)
+      (λ o so. let is : fresh_soft d ≡ o = cc in subst (λ (z : Soft). IsFitNode ring id (recover d) z) is y) (λ m in_m. absurd (none_contained m in_m))
+  turn_fits w id ComeUp (Cut count) g x =
+      let d = (w.nodes id).durable in
+      downed_fits w id (all_done d (take count (restart_actions d))) (count ∷ []) x (partly_sound ring id d count (stray_opids d) refl (x.nodes id).0, partly_payloads ring d count (stray_opids d) (x.nodes id).1)
+  turn_fits w id Rest Whole g x = same_fits w (passed w) refl refl x
+  turn_fits w id Rest (Cut count) g x = downed_fits w id (w.nodes id).durable (count ∷ []) x (x.nodes id)
+
+  member_fits : (w : WorldState) (id : ℕ) (task : Task) (completion : Completion) → IsGoodTask ring task → IsFit ring w → IsFit ring (member_turn ring w id task completion)
+  member_fits w id task completion g x = go (is_member ring id)
     where
-      kept : StepKeeps (D id) (R id) M (w.nodes id).durable (step ring id (w.nodes id).durable s i)
-      kept = all.steps h id (w.nodes id).durable s i k.history (k.nodes id) (k.running id s up) (subst (λ (ms : List Message). IsGiven ms id i) (sym k.messages) given) whole
-          (subst (λ (ms : List Message). (m : Message) → Contains ms m → M m) (sym k.messages) x.messages) (x.nodes id) (x.running id s up)
+      go : (b : Bool) → IsFit ring (if b then turn ring w id task completion else passed w)
+      go true = turn_fits w id task completion g x
+      go false = same_fits w (passed w) refl refl x
 
-      go : (c : Completion) → Holds D R M (ended w id (w.nodes id).durable (step ring id (w.nodes id).durable s i) c)
-      go Whole =
-          let st = step ring id (w.nodes id).durable s i in
-          turned_holds w id (record { durable = all_done (w.nodes id).durable st.plan.actions; soft = Some st.soft }) st.plan.messages st.plan.says [] x kept.whole
-          (λ o so. let is : st.soft ≡ o = cc in subst (λ (y : Soft). R id (all_done (w.nodes id).durable st.plan.actions) y) is kept.soft) kept.sent
-      go (Cut count) =
-          let st = step ring id (w.nodes id).durable s i in
-          turned_holds w id (record { durable = all_done (w.nodes id).durable (take count st.plan.actions); soft = None }) [] [] (count ∷ []) x (kept.cut count) (λ o so. absurd cc) (λ m in_m. absurd (none_contained m in_m))
+  given_fits : (w : WorldState) (completion : Completion) (number : ℕ) (o : Option Message) → message_at w.messages number ≡ o → IsFit ring w → IsFit ring (given ring w completion o)
+  given_fits w completion number None is x = same_fits w (passed w) refl refl x
+  given_fits w completion number (Some m) is x = member_fits w m.to (Handle (input.Deliver m)) completion (x.messages m (in_number w.messages number m is)) x
 
-  turn_holds : (w : WorldState) (h : History) (id : ℕ) (task : Task) (completion : Completion) → IsWorld ring w h → MayTake w.messages id task → IsWhole task → Holds D R M w → Holds D R M (turn ring w id task completion)
-  turn_holds w h id (Handle i) completion k given whole x = handled_holds w h id i completion (w.nodes id).soft refl k given whole x
-  turn_holds w h id GoDown completion k given whole x = turned_holds w id (record { durable = (w.nodes id).durable; soft = None }) [] [] [] x (x.nodes id) (λ o so. absurd cc) (λ m in_m. absurd (none_contained m in_m))
-  turn_holds w h id ComeUp Whole k given whole x =
-      turned_holds w id (record { durable = recover (w.nodes id).durable; soft = Some (fresh_soft (w.nodes id).durable) }) [] [] [] x (all.recovers h id (w.nodes id).durable (k.nodes id) (x.nodes id))
-      (λ o so. let is : fresh_soft (w.nodes id).durable ≡ o = cc in subst (λ (y : Soft). R id (recover (w.nodes id).durable) y) is (all.starts h id (w.nodes id).durable (k.nodes id) (x.nodes id)))
-      (λ m in_m. absurd (none_contained m in_m))
-  turn_holds w h id ComeUp (Cut count) k given whole x =
-      turned_holds w id (record { durable = all_done (w.nodes id).durable (take count (restart_actions (w.nodes id).durable)); soft = None }) [] [] (count ∷ []) x (all.partly h id (w.nodes id).durable count (k.nodes id) (x.nodes id))
-      (λ o so. absurd cc) (λ m in_m. absurd (none_contained m in_m))
+  given_to_fits : (w : WorldState) (id : ℕ) (completion : Completion) (number : ℕ) (o : Option Message) → message_at w.messages number ≡ o → IsFit ring w → IsFit ring (given_to ring w id completion o)
+  given_to_fits w id completion number None is x = member_fits w id Rest completion tt x
+  given_to_fits w id completion number (Some m) is x = member_fits w m.to (Handle (input.Deliver m)) completion (x.messages m (in_number w.messages number m is)) x
 
-  member_holds : (w : WorldState) (h : History) (id : ℕ) (task : Task) (completion : Completion) → IsWorld ring w h → MayTake w.messages id task → IsWhole task → Holds D R M w → Holds D R M (member_turn ring w id task completion)
-  member_holds w h id task completion k given whole x = go (is_member ring id)
-    where
-      go : (b : Bool) → Holds D R M (if b then turn ring w id task completion else passed w)
-      go true = turn_holds w h id task completion k given whole x
-      go false = same_holds w (passed w) refl refl x
+  moved_fits : (w : WorldState) (id number : ℕ) → IsFit ring w → IsFit ring (moved w id number)
+  moved_fits w id number x = same_fits w (moved w id number) refl refl x
 
-  given_holds : (w : WorldState) (h : History) (completion : Completion) (number : ℕ) (o : Option Message) → message_at w.messages number ≡ o → IsWorld ring w h → Holds D R M w → Holds D R M (given ring w completion o)
-  given_holds w h completion number None is k x = same_holds w (passed w) refl refl x
-  given_holds w h completion number (Some m) is k x = member_holds w h m.to (Handle (input.Deliver m)) completion k (in_number w.messages number m is, refl) refl x
+  next_fits : (w : WorldState) (id : ℕ) (completion : Completion) (o : Option ℕ) → IsFit ring w → IsFit ring (next_given ring w id completion o)
+  next_fits w id completion None x = member_fits w id Rest completion tt x
+  next_fits w id completion (Some number) x = given_to_fits (moved w id number) id completion number (message_at w.messages number) refl (moved_fits w id number x)
 
-  next_holds : (w : WorldState) (h : History) (id : ℕ) (completion : Completion) (o : Option ℕ) → IsWorld ring w h → Holds D R M w → Holds D R M (next_given ring w id completion o)
-  next_holds w h id completion None k x = same_holds w (passed w) refl refl x
-  next_holds w h id completion (Some number) k x =
-      given_holds (moved w id number) h completion number (message_at w.messages number) refl (same_world ring w (moved w id number) h refl refl refl k) (same_holds w (moved w id number) refl refl x)
+  skipped_fits : (w : WorldState) (id : ℕ) (completion : Completion) (o : Option ℕ) → IsFit ring w → IsFit ring (skipped ring w id completion o)
+  skipped_fits w id completion None x = member_fits w id Rest completion tt x
+  skipped_fits w id completion (Some number) x = member_fits (moved w id number) id Rest completion tt (moved_fits w id number x)
 
-  skipped_holds : (w : WorldState) (id : ℕ) (o : Option ℕ) → Holds D R M w → Holds D R M (skipped w id o)
-  skipped_holds w id None x = same_holds w (passed w) refl refl x
-  skipped_holds w id (Some number) x = same_holds w (passed (moved w id number)) refl refl x
+  at_fits : (w : WorldState) (id : ℕ) (i : Input) (completion : Completion) → is_whole_input i ≡ true → IsFit ring w → IsFit ring (at_node ring w id i completion)
+  at_fits w id (input.Deliver m) completion whole x = member_fits w id Rest completion tt x
+  at_fits w id input.Elect completion whole x = member_fits w id (Handle input.Elect) completion tt x
+  at_fits w id input.Beat completion whole x = member_fits w id (Handle input.Beat) completion tt x
+  at_fits w id (input.Write client changes) completion whole x = member_fits w id (Handle (input.Write client changes)) completion (grind (arith, nat_tests, whole)) x
+  at_fits w id (input.Rotate client) completion whole x = member_fits w id (Handle (input.Rotate client)) completion tt x
+  at_fits w id (input.Transfer client target) completion whole x = member_fits w id (Handle (input.Transfer client target)) completion tt x
+  at_fits w id (input.Cancel client) completion whole x = member_fits w id (Handle (input.Cancel client)) completion tt x
 
-  at_holds : (w : WorldState) (h : History) (id : ℕ) (i : Input) (completion : Completion) → IsWorld ring w h → is_whole_input i ≡ true → Holds D R M w → Holds D R M (at_node ring w id i completion)
-  at_holds w h id (input.Deliver m) completion k whole x = same_holds w (passed w) refl refl x
-  at_holds w h id input.Elect completion k whole x = member_holds w h id (Handle input.Elect) completion k tt whole x
-  at_holds w h id input.Beat completion k whole x = member_holds w h id (Handle input.Beat) completion k tt whole x
-  at_holds w h id (input.Write client changes) completion k whole x = member_holds w h id (Handle (input.Write client changes)) completion k tt whole x
-  at_holds w h id (input.Rotate client) completion k whole x = member_holds w h id (Handle (input.Rotate client)) completion k tt whole x
-  at_holds w h id (input.Transfer client target) completion k whole x = member_holds w h id (Handle (input.Transfer client target)) completion k tt whole x
-  at_holds w h id (input.Cancel client) completion k whole x = member_holds w h id (Handle (input.Cancel client)) completion k tt whole x
+  line_fits : (w : WorldState) (completion : Completion) (l : Line) → is_known ring w l ≡ true → IsFit ring w → IsFit ring (line_step ring w completion l)
+  line_fits w completion (line.At node i) known x = at_fits w node i completion (both_true (is_member ring node) (is_whole_input i) known).1 x
+  line_fits w completion (line.Give number) known x = given_fits w completion number (message_at w.messages number) refl x
+  line_fits w completion (line.Next node) known x = next_fits w node completion (next_to w node) x
+  line_fits w completion (line.Skip node) known x = skipped_fits w node completion (next_to w node) x
+  line_fits w completion (line.Again node) known x = given_to_fits w node completion (w.cursors node) (message_at w.messages (w.cursors node)) refl x
+  line_fits w completion (line.Crash node) known x = member_fits w node GoDown completion tt x
+  line_fits w completion (line.Restart node) known x = member_fits w node ComeUp completion tt x
 
-  line_holds : (w : WorldState) (h : History) (completion : Completion) (l : Line) → IsWorld ring w h → is_known ring w l ≡ true → Holds D R M w → Holds D R M (line_step ring w completion l)
-  line_holds w h completion (line.At node i) k known x = at_holds w h node i completion k (both_true (is_member ring node) (is_whole_input i) known).1 x
-  line_holds w h completion (line.Give number) k known x = given_holds w h completion number (message_at w.messages number) refl k x
-  line_holds w h completion (line.Next node) k known x = next_holds w h node completion (next_to w node) k x
-  line_holds w h completion (line.Skip node) k known x = skipped_holds w node (next_to w node) x
-  line_holds w h completion (line.Again node) k known x = given_holds w h completion (w.cursors node) (message_at w.messages (w.cursors node)) refl k x
-  line_holds w h completion (line.Crash node) k known x = member_holds w h node GoDown completion k tt tt x
-  line_holds w h completion (line.Restart node) k known x = member_holds w h node ComeUp completion k tt tt x
-
-  pub event_holds : (w : WorldState) (h : History) (m : Move) → IsWorld ring w h → is_known ring w m.event.what ≡ true → Holds D R M w → Holds D R M (world_step ring w m.event m.completion)
+  pub event_fits : (w : WorldState) (m : Move) → is_known ring w m.event.what ≡ true → IsFit ring w → IsFit ring (world_step ring w m.event m.completion)
   unfolding world_step
-  event_holds w h m k known x = line_holds w h m.completion m.event.what k known x
+  event_fits w m known x = line_fits w m.completion m.event.what known x
 
-  run_holds : (w : WorldState) (h : History) (run : List Move) → IsRunFrom ring w run → IsWorld ring w h → Holds D R M w → Holds D R M (world_from ring w run)
-  run_holds w h [] is k x = x
-  run_holds w h (m ∷ run) is k x = let y = event_over ring w h m k in run_holds (world_step ring w m.event m.completion) y.after run is.2 y.world (event_holds w h m k is.0 x)
+  -- ---- runs
+  run_fits : (w : WorldState) (run : List Move) → IsRunFrom ring w run → IsFit ring w → IsFit ring (world_from ring w run)
+  run_fits w [] is x = x
+  run_fits w (m ∷ run) is x = run_fits (world_step ring w m.event m.completion) run is.2 (event_fits w m is.0 x)
 
-  pub first_keeps : Holds D R M first_world
-  first_keeps = record {
-    nodes = all.first;
-    running = λ id s up. let is : fresh_soft empty_durable ≡ s = cc in subst (λ (o : Soft). R id empty_durable o) is (all.starts first_history id empty_durable ((first_holds ring).nodes id) (all.first id));
+  pub first_fits : IsFit ring first_world
+  first_fits = record {
+    nodes = λ id. (empty_sound ring id, refl);
+    running = λ id s up.
+        let is : fresh_soft empty_durable ≡ s = cc in
+        subst (λ (o : Soft). IsFitNode ring id empty_durable o) is (recovery_lawful ring id empty_durable (empty_sound ring id), refl);
     messages = λ m in_m. absurd (none_contained m in_m);
   }
 
-  pub holds_always : (run : List Move) → IsRun ring run → Holds D R M (world ring run)
+  pub always_fits : (run : List Move) → IsRun ring run → IsFit ring (world ring run)
   unfolding world
-  holds_always run is = run_holds first_world first_history run is (first_holds ring) first_keeps
+  always_fits run is = run_fits first_world run is first_fits

@@ -8,7 +8,7 @@ use Rattle.ring_types.specs.declared.entries.Payload.TheVariants as payload
 use Rattle.ring_types.specs.declared.values.Change.{Change}
 use Rattle.ring_types.specs.declared.values.RowRefusal.{RowRefusal}
 use Rattle.ring_types.specs.Gtids.{next_number}
-use Rattle.ring_types.specs.Rings.{Layout, runs_engine, server_of}
+use Rattle.ring_types.specs.Rings.{IsRing, Layout, runs_engine, server_of}
 use Rattle.ring_types.specs.Rows.{check, is_valid}
 use Rattle.ring_types.specs.Sizes.{group_limit, group_size}
 use Rattle.ring_model.specs.declared.effects.Cause.{Cause}
@@ -20,7 +20,7 @@ use Rattle.ring_model.specs.Nodes.{is_leader, is_ready}
 use Rattle.ring_model.specs.Runs.{IsRun, Move, world}
 use Rattle.ring_model.specs.Safety.{ChosenIsValid, EveryRunIsSafe}
 use Rattle.ring_model.specs.Writes.{change_refusal, committed_rows, is_exhausted, is_handing, length_limit, lock_of, lock_refusal, size_refusal, write_entry, write_refusal, write_txn}
-use Rattle.ring_model.proofs.Runs.{every_run_is_safe_so_far}
+use Rattle.ring_model.proofs.Runs.{safe_logs}
 use Rattle.ring_lawful.specs.Lawful.{EveryLogIsValid, EveryRunChoosesValid}
 use Rattle.ring_lawful.proofs.Books.{IsKept, chosen_holds, logs_hold}
 use Rattle.ring_lawful.proofs.EngineRules.{write_holds, write_is_ready}
@@ -28,7 +28,7 @@ use Rattle.ring_lawful.proofs.EngineSteps.{EngineRuns}
 use Rattle.ring_lawful.proofs.Locks.{none_valid, valid_plain, valid_take, valid_write}
 use Rattle.ring_lawful.proofs.Numbers.{Once, none_once, once_plain, once_take, once_write}
 use Rattle.ring_lawful.proofs.Pairs.{between_all}
-use Rattle.ring_lawful.proofs.Prepared.{every_run_prepares_in_order}
+use Rattle.ring_lawful.proofs.EveryRun.{prepared_agrees}
 
 -- ---- what a write that is not refused passed
 first_false : (a b : Bool) → (a || b) ≡ false → a ≡ false
@@ -99,25 +99,26 @@ good_kept ring = record {
 }
 
 -- ---- the facts
-chosen_is_valid : (ring : Layout) (run : List Move) → IsRun ring run → ChosenIsValid ring (world ring run)
-chosen_is_valid ring run lawful = let x = chosen_holds ring (IsGood ring) (good_kept ring) run lawful in record { accepted = x.0; gtids_once = x.1 }
+chosen_is_valid : (ring : Layout) (run : List Move) → IsRing ring → IsRun ring run → ChosenIsValid ring (world ring run)
+chosen_is_valid ring run valid is = let x = chosen_holds ring (IsGood ring) (good_kept ring) run valid is in record { accepted = x.0; gtids_once = x.1 }
 
 pub every_run_chooses_valid : EveryRunChoosesValid
-every_run_chooses_valid ring run lawful = chosen_is_valid ring run lawful
+every_run_chooses_valid ring run valid is = chosen_is_valid ring run valid is
 
 pub every_log_is_valid : EveryLogIsValid
-every_log_is_valid ring run lawful id = logs_hold ring (IsGood ring) (good_kept ring) run lawful id
+every_log_is_valid ring run valid is id = logs_hold ring (IsGood ring) (good_kept ring) run valid is id
 
--- all seven facts
+-- all seven facts, and what committed entries are to later leaders
 pub every_run_is_safe : EveryRunIsSafe
-every_run_is_safe ring run lawful =
-    let x = every_run_is_safe_so_far ring run lawful in
+every_run_is_safe ring run valid is =
+    let x = safe_logs ring run valid in
     record {
       applied_prefix = x.applied_prefix;
       told_stands = x.told_stands;
       one_leader_a_term = x.one_leader_a_term;
-      prepared_agrees = every_run_prepares_in_order ring run lawful;
-      chosen_is_valid = chosen_is_valid ring run lawful;
+      prepared_agrees = prepared_agrees ring run is;
+      chosen_is_valid = chosen_is_valid ring run valid is;
       logs_match = x.logs_match;
       chosen_grows = x.chosen_grows;
+      leaders_have = x.leaders_have;
     }

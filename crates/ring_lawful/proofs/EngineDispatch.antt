@@ -1,9 +1,8 @@
 -- The step of a node on any input keeps its prepared pairs: each input has its rule.
-use Rattle.std.proofs.Common.{ℕ, ◌==◌, ◌&&◌, ◌||◌, [], ◌∷◌, ◌++◌, if◌then◌else◌, Bool, List, None, Option, Some, false, map, not, refl, suc, take, true}
+use Rattle.std.proofs.Common.{ℕ, ◌==◌, ◌&&◌, ◌||◌, [], ◌∷◌, ◌++◌, if◌then◌else◌, Bool, List, None, Option, Some, false, map, not, refl, suc, true}
 use Rattle.ring_types.specs.declared.entries.Opid.{Opid}
 use Rattle.ring_types.specs.Rings.{Layout, votes}
 use Rattle.ring_model.specs.declared.effects.Cause.{Cause}
-use Rattle.ring_model.specs.declared.effects.Step.{Step}
 use Rattle.ring_model.specs.declared.effects.What.TheVariants as what
 use Rattle.ring_model.specs.declared.messages.Body.{Body}
 use Rattle.ring_model.specs.declared.messages.Body.TheVariants as body
@@ -21,7 +20,6 @@ use Rattle.ring_model.specs.declared.nodes.Mock.TheVariants as mock
 use Rattle.ring_model.specs.declared.nodes.Soft.{Soft}
 use Rattle.ring_model.specs.declared.nodes.Transfer.{Transfer}
 use Rattle.ring_model.specs.declared.nodes.Transfer.TheVariants as transfer
-use Rattle.ring_model.specs.Actions.{all_done}
 use Rattle.ring_model.specs.Dispatch.{body_step, deliver, is_foreign, step}
 use Rattle.ring_model.specs.Elections.{elect}
 use Rattle.ring_model.specs.Nodes.{is_follower, is_leader}
@@ -30,10 +28,6 @@ use Rattle.ring_model.specs.Replication.{beat, beat_to, quieter, relay}
 use Rattle.ring_model.specs.Steps.{idle, message, stepped}
 use Rattle.ring_model.specs.Transfers.{ask_transfer, begin_mock, begin_round, cancel, count_answer, is_off, is_old_round, mock_hears, on_mock_reply, on_mock_request, on_mock_result, on_mock_start, on_timeout, passes, result_heard, transfer_hears, transfer_refusal, with_answer}
 use Rattle.ring_model.specs.Writes.{refused}
-use Rattle.ring_model.proofs.Invariant.{History, IsHistory, IsNode}
-use Rattle.ring_model.proofs.Paths.{path_cut, path_keeps}
-use Rattle.ring_model.proofs.Turns.{IsRow, seal_within}
-use Rattle.ring_lawful.proofs.Order.{placed_in}
 use Rattle.ring_lawful.proofs.EngineRules.{Both, answered_both, elect_both, idle_both, quiet_both, reply_both, request_both, rotate_both, write_both}
 use Rattle.ring_lawful.proofs.EngineAppend.{Fits, append_both}
 

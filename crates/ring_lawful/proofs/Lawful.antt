@@ -5,22 +5,14 @@ use Rattle.std.proofs.lemmas.List.Elements.{Contains-get_or}
 use Rattle.std.specs.Prelude.{nat_le, slice_index_or}
 use Rattle.std.specs.List.{All, Contains}
 use Rattle.ring_types.specs.Rings.{Layout}
-use Rattle.ring_model.specs.declared.messages.Message.{Message}
 use Rattle.ring_model.specs.declared.nodes.Durable.{Durable}
 use Rattle.ring_model.specs.declared.nodes.Peer.{Peer}
 use Rattle.ring_model.specs.declared.nodes.Soft.{Soft}
-use Rattle.ring_model.specs.Nodes.{IsLawful, IsPendingIn, IsSound, PeerFits, fresh_soft, is_leader, is_ready}
-use Rattle.ring_model.specs.Runs.{IsRun, Move, world}
+use Rattle.ring_model.specs.Nodes.{IsLawful, IsPendingIn, IsSound, PeerFits, is_leader, is_ready}
 use Rattle.ring_model.proofs.Lists.{all_of}
-use Rattle.ring_lawful.specs.Lawful.{EveryRunningNodeIsLawful}
 use Rattle.ring_lawful.proofs.Keeps.{KeepsCounts, RunsEngine}
-use Rattle.ring_lawful.proofs.Carry.{Holds, IsKeptByAll, holds_always}
-use Rattle.ring_lawful.proofs.Leads.{SoftFits, increasing, stands}
-use Rattle.ring_lawful.proofs.LeadsRules.{step_soft}
-use Rattle.ring_lawful.proofs.Order.{every_node_keeps_order, running_counts}
-use Rattle.ring_lawful.proofs.Prepared.{every_node_keeps_pairs}
+use Rattle.ring_lawful.proofs.Leads.{SoftFits, increasing}
 use Rattle.ring_lawful.proofs.SizedRules.{IsShort}
-use Rattle.ring_lawful.proofs.Sound.{every_node_is_sound, every_run_keeps_candidates_short}
 
 all_from : {X : Type 0} (P : X → Type 0) (xs : List X) → ((x : X) → Contains xs x → P x) → All P xs
 all_from P xs each k d lt = each (slice_index_or xs k d) (Contains-get_or xs k d lt)

@@ -1,39 +1,26 @@
 -- Actions that keep order, limits and pairs are possible, each where its turn comes.
-use Rattle.std.proofs.Common.{◌≡◌, ℕ, ◌^◌, ◌≤◌, ◌&&◌, [], ◌∷◌, Bool, List, Some, arith, false, length, refl, subst, suc, sym, take, true}
+use Rattle.std.proofs.Common.{◌≡◌, ℕ, ◌^◌, ◌≤◌, ◌&&◌, [], ◌∷◌, List, arith, length, suc, take, true}
 use Rattle.std.specs.Prelude.{nat_le, nat_lt}
 use Rattle.ring_types.specs.declared.entries.Entry.{Entry}
 use Rattle.ring_types.specs.declared.entries.Opid.{Opid}
 use Rattle.ring_types.specs.Logs.{IsLog}
-use Rattle.ring_types.specs.Rings.{Layout, runs_engine}
+use Rattle.ring_types.specs.Rings.{Layout}
 use Rattle.ring_types.specs.Rows.{payload_fits, payloads_fit}
 use Rattle.ring_types.specs.Sizes.{group_bytes, group_limit}
 use Rattle.ring_model.specs.declared.effects.Action.{Action}
 use Rattle.ring_model.specs.declared.effects.Action.TheVariants as action
-use Rattle.ring_model.specs.declared.messages.Input.{Input}
-use Rattle.ring_model.specs.declared.messages.Input.TheVariants as input
-use Rattle.ring_model.specs.declared.messages.Message.{Message}
 use Rattle.ring_model.specs.declared.nodes.Durable.{Durable}
-use Rattle.ring_model.specs.declared.nodes.Soft.{Soft}
 use Rattle.ring_model.specs.Actions.{ArePossible, IsPossible, all_done, done}
-use Rattle.ring_model.specs.Dispatch.{step}
 use Rattle.ring_model.specs.Nodes.{stray_opids}
-use Rattle.ring_model.specs.Runs.{is_whole_input, world}
 use Rattle.ring_model.specs.Worlds.{restart_actions}
-use Rattle.ring_model.proofs.Dispatch.{IsGiven, step_row}
 use Rattle.ring_model.proofs.Lists.{both_true}
-use Rattle.ring_model.proofs.Paths.{path_cut, path_keeps}
-use Rattle.ring_model.proofs.Runs.{reached}
-use Rattle.ring_lawful.specs.Lawful.{EveryPlanIsPossible, WasSent}
 use Rattle.ring_lawful.proofs.Keeps.{KeepsOrder}
-use Rattle.ring_lawful.proofs.Along.{Allowed, Along, allowed_along, along_cut}
+use Rattle.ring_lawful.proofs.Along.{Allowed, Along}
 use Rattle.ring_lawful.proofs.Engine.{Can}
-use Rattle.ring_lawful.proofs.EngineDispatch.{row_fits, step_both}
-use Rattle.ring_lawful.proofs.EngineRules.{AllTail, Both, IsTail}
-use Rattle.ring_lawful.proofs.Order.{node_order}
+use Rattle.ring_lawful.proofs.EngineRules.{AllTail, IsTail}
 use Rattle.ring_lawful.proofs.Pairs.{take_short}
-use Rattle.ring_lawful.proofs.Prepared.{held}
-use Rattle.ring_lawful.proofs.Sized.{May, Sized, all_weaker, entry_fits, rotates_is, sized_one}
-use Rattle.ring_lawful.proofs.Sound.{short_log, sized_always, step_keeps}
+use Rattle.ring_lawful.proofs.Sized.{May, Sized, all_weaker, entry_fits, rotates_is}
+use Rattle.ring_lawful.proofs.Sound.{short_log}
 
 -- what holds before and after each action
 pub record Good (ring : Layout) (d : Durable) : Type 0 where

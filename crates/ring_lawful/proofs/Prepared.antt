@@ -10,25 +10,15 @@ use Rattle.ring_types.specs.Rings.{Layout, runs_engine}
 use Rattle.ring_types.specs.Logs.{has_opid, same_opid}
 use Rattle.ring_model.specs.declared.effects.Action.{Action}
 use Rattle.ring_model.specs.declared.effects.Action.TheVariants as action
-use Rattle.ring_model.specs.declared.messages.Message.{Message}
 use Rattle.ring_model.specs.declared.nodes.Durable.{Durable}
 use Rattle.ring_model.specs.declared.nodes.Soft.{Soft}
 use Rattle.ring_model.specs.Actions.{all_done, done, pairs_in}
-use Rattle.ring_model.specs.Dispatch.{step}
-use Rattle.ring_model.specs.Nodes.{fresh_soft, kept_pairs, recover, stray_opids}
-use Rattle.ring_model.specs.Runs.{IsRun, Move, world}
-use Rattle.ring_model.proofs.Dispatch.{step_row}
-use Rattle.ring_model.proofs.Invariant.{History, IsNode}
-use Rattle.ring_model.proofs.Turns.{seal_within}
-use Rattle.ring_lawful.specs.Lawful.{}
+use Rattle.ring_model.specs.Nodes.{kept_pairs, recover, stray_opids}
 use Rattle.ring_lawful.proofs.Keeps.{KeepsPairs, RunsEngine}
-use Rattle.ring_lawful.proofs.Along.{Along, along_cut, along_end}
-use Rattle.ring_lawful.proofs.Carry.{Holds, IsKeptByAll, holds_always}
-use Rattle.ring_lawful.proofs.Engine.{Clean, HasPairs, clean_above, clean_has, clean_kept}
-use Rattle.ring_lawful.proofs.EngineDispatch.{row_fits, step_both}
+use Rattle.ring_lawful.proofs.Along.{Along}
+use Rattle.ring_lawful.proofs.Engine.{Clean, HasPairs, clean_kept}
 use Rattle.ring_lawful.proofs.EngineRules.{AllTail, IsTail}
-use Rattle.ring_lawful.proofs.EngineSteps.{EngineRuns, stands_down}
-use Rattle.ring_lawful.proofs.Order.{placed_in}
+use Rattle.ring_lawful.proofs.EngineSteps.{EngineRuns}
 use Rattle.ring_lawful.proofs.Pairs.{Placed, none_between}
 
 abbrev pub IsEmpty : Durable → Type 0

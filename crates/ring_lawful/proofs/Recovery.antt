@@ -6,19 +6,13 @@ use Rattle.ring_types.specs.declared.entries.Opid.{Opid}
 use Rattle.ring_types.specs.declared.entries.Pair.{Pair}
 use Rattle.ring_types.specs.Logs.{has_opid}
 use Rattle.ring_types.specs.Rings.{Layout}
-use Rattle.ring_types.specs.Rows.{payloads_fit}
 use Rattle.ring_model.specs.declared.effects.Action.TheVariants as action
-use Rattle.ring_model.specs.declared.messages.Input.{Input}
-use Rattle.ring_model.specs.declared.messages.Input.TheVariants as input
-use Rattle.ring_model.specs.declared.messages.Message.{Message}
 use Rattle.ring_model.specs.declared.nodes.Durable.{Durable}
 use Rattle.ring_model.specs.declared.nodes.Role.TheVariants.{Candidate, Follower, Leader}
-use Rattle.ring_model.specs.declared.nodes.Soft.{Soft}
 use Rattle.ring_model.specs.Actions.{all_done, done}
 use Rattle.ring_model.specs.Nodes.{IsLawful, IsSound, fresh_soft, kept_pairs, recover, stray_opids}
-use Rattle.ring_model.specs.WellFormed.{IsNearlyWellFormed}
 use Rattle.ring_model.specs.Worlds.{restart_actions}
-use Rattle.ring_lawful.specs.EachStep.{EveryRecoveryIsLawful, IsFitNode, IsFitPart, IsGood}
+use Rattle.ring_lawful.specs.EachStep.{EveryRecoveryIsLawful}
 use Rattle.ring_lawful.proofs.Keeps.{KeepsPairs}
 use Rattle.ring_lawful.proofs.Engine.{clean_has}
 use Rattle.ring_lawful.proofs.EngineSteps.{stands_down}
@@ -32,15 +26,10 @@ use Rattle.std.proofs.lemmas.Bool.Decides.{nat_tests}
 use Rattle.std.specs.List.{list_any}
 use Rattle.ring_types.specs.Logs.{same_opid}
 use Rattle.ring_model.specs.Nodes.{empty_durable}
-use Rattle.ring_model.specs.Runs.{is_whole_input}
-use Rattle.ring_model.proofs.Dispatch.{IsGiven}
 use Rattle.ring_model.proofs.Lists.{any_true, filter_keeps, in_cons, map_keeps}
-use Rattle.ring_lawful.specs.EachStep.{EveryFirstNodeIsLawful, EveryMessageIsNearlyWellFormed}
-use Rattle.ring_lawful.proofs.Carry.{IsKeptByAll, holds_always}
+use Rattle.ring_lawful.specs.EachStep.{EveryFirstNodeIsLawful}
 use Rattle.ring_lawful.proofs.Chains.{chain_places, chain_rises}
-use Rattle.ring_lawful.proofs.EachStep.{every_step_is_possible, every_step_keeps_lawful}
 use Rattle.ring_lawful.proofs.Prepared.{stray_not}
-use Rattle.ring_lawful.proofs.StepSends.{every_step_sends_well_formed}
 
 -- ---- recovery
 -- with these prepared pairs alone made other, sound where the pairs are

@@ -1,22 +1,18 @@
 -- Each rule keeps the limits of a node, and a durable part that keeps order, limits and pairs is sound.
-use Rattle.std.proofs.Common.{◌≡◌, ℕ, ◌^◌, ◌<◌, ◌==◌, ◌&&◌, ◌||◌, [], ◌∷◌, ◌++◌, if◌then◌else◌, Bool, List, None, Option, Some, arith, false, length, not, refl, suc, take, true, zero}
+use Rattle.std.proofs.Common.{◌≡◌, ℕ, ◌^◌, ◌<◌, ◌==◌, ◌&&◌, ◌||◌, [], ◌∷◌, ◌++◌, if◌then◌else◌, Bool, List, None, Option, Some, arith, false, length, not, refl, suc, true, zero}
 use Rattle.std.proofs.lemmas.Bool.Decides.{nat_tests}
 use Rattle.std.specs.Prelude.{nat_le, nat_lt}
-use Rattle.std.specs.List.{Contains, list_all}
+use Rattle.std.specs.List.{list_all}
 use Rattle.ring_types.specs.declared.entries.Entry.{Entry}
 use Rattle.ring_types.specs.declared.entries.Opid.{Opid}
 use Rattle.ring_types.specs.declared.members.Member.{Member}
 use Rattle.ring_types.specs.Rings.{Layout, is_voter, votes}
 use Rattle.ring_types.specs.Rows.{payload_fits}
 use Rattle.ring_types.specs.Sizes.{group_bytes, group_limit}
-use Rattle.ring_model.specs.declared.effects.Action.TheVariants as action
 use Rattle.ring_model.specs.declared.effects.Cause.{Cause}
 use Rattle.ring_model.specs.declared.effects.What.TheVariants as what
 use Rattle.ring_model.specs.declared.messages.Body.{Body}
 use Rattle.ring_model.specs.declared.messages.Body.TheVariants as body
-use Rattle.ring_model.specs.declared.messages.Input.{Input}
-use Rattle.ring_model.specs.declared.messages.Input.TheVariants as input
-use Rattle.ring_model.specs.declared.messages.Message.{Message}
 use Rattle.ring_model.specs.declared.messages.MockReply.{MockReply}
 use Rattle.ring_model.specs.declared.messages.MockRequest.{MockRequest}
 use Rattle.ring_model.specs.declared.messages.MockResult.{MockResult}
@@ -28,27 +24,18 @@ use Rattle.ring_model.specs.declared.nodes.Peer.{Peer}
 use Rattle.ring_model.specs.declared.nodes.Soft.{Soft}
 use Rattle.ring_model.specs.declared.nodes.Transfer.{Transfer}
 use Rattle.ring_model.specs.declared.nodes.Transfer.TheVariants as transfer
-use Rattle.ring_model.specs.Actions.{all_done, done}
-use Rattle.ring_model.specs.Dispatch.{body_step, is_foreign, step}
+use Rattle.ring_model.specs.Dispatch.{body_step}
 use Rattle.ring_model.specs.Elections.{elect}
-use Rattle.ring_model.specs.Nodes.{IsSound, is_follower, is_leader, recover, stray_opids}
+use Rattle.ring_model.specs.Nodes.{IsSound, is_follower, is_leader}
 use Rattle.ring_model.specs.Quorums.{is_listed}
-use Rattle.ring_model.specs.Runs.{IsRun, Move, is_whole_input, world}
 use Rattle.ring_model.specs.Steps.{idle, message, stepped}
 use Rattle.ring_model.specs.Transfers.{ask_transfer, begin_mock, begin_round, cancel, count_answer, deciding, hand_over, has_matched, is_off, is_old_round, mock_hears, mock_requests, mock_result, on_mock_reply, on_mock_request, on_mock_result, on_mock_start, on_timeout, opening, own_failed, own_passed, passes, result_heard, transfer_hears, transfer_refusal, verdict, with_answer}
 use Rattle.ring_model.specs.Writes.{refused}
-use Rattle.ring_model.proofs.Dispatch.{IsGiven}
 use Rattle.ring_model.proofs.Lists.{all_of, both_true}
-use Rattle.ring_model.proofs.Runs.{reached}
-use Rattle.ring_lawful.specs.Lawful.{EveryNodeIsSound, EveryRunKeepsCandidatesShort}
 use Rattle.ring_lawful.proofs.Keeps.{KeepsOrder, KeepsPairs}
-use Rattle.ring_lawful.proofs.Along.{Along, allowed_along, along_cut, along_end}
-use Rattle.ring_lawful.proofs.Carry.{Holds, IsKeptByAll, holds_always}
-use Rattle.ring_lawful.proofs.Order.{node_order}
 use Rattle.ring_lawful.proofs.Pairs.{Placed, at_contains, within_some}
-use Rattle.ring_lawful.proofs.Prepared.{every_node_keeps_pairs}
-use Rattle.ring_lawful.proofs.Sized.{AllFit, BodyFits, May, Sized, all_weaker, entry_fits, fit_each, increasing, rotates_is, sized_one, sized_at}
-use Rattle.ring_lawful.proofs.SizedRules.{IsShort, Keeps, answered_keeps, append_keeps, beat_keeps, elect_keeps, idle_keeps, quiet_keeps, relay_keeps, reply_keeps, request_keeps, rotate_keeps, write_keeps}
+use Rattle.ring_lawful.proofs.Sized.{AllFit, BodyFits, Sized, all_weaker, entry_fits, increasing, rotates_is}
+use Rattle.ring_lawful.proofs.SizedRules.{IsShort, Keeps, answered_keeps, append_keeps, elect_keeps, idle_keeps, quiet_keeps, relay_keeps, reply_keeps, request_keeps, rotate_keeps, write_keeps}
 
 -- ---- rules whose messages claim nothing
 pub transfer_keeps : (ring : Layout) (me client target : ℕ) (d : Durable) (s : Soft) → IsShort d s → Keeps ring d (ask_transfer ring me d s client target)

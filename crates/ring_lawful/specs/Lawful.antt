@@ -5,7 +5,7 @@ use Rattle.ring_types.specs.declared.entries.Entry.{Entry}
 use Rattle.ring_types.specs.declared.values.Gtid.{Gtid}
 use Rattle.ring_types.specs.Gtids.{gtid_of}
 use Rattle.ring_types.specs.Logs.{entry_at}
-use Rattle.ring_types.specs.Rings.{Layout}
+use Rattle.ring_types.specs.Rings.{IsRing, Layout}
 use Rattle.ring_types.specs.Rows.{is_valid}
 use Rattle.ring_model.specs.declared.messages.Input.{Input}
 use Rattle.ring_model.specs.declared.messages.Input.TheVariants as input
@@ -13,17 +13,17 @@ use Rattle.ring_model.specs.declared.messages.Message.{Message}
 use Rattle.ring_model.specs.declared.nodes.Soft.{Soft}
 use Rattle.ring_model.specs.Actions.{ArePossible}
 use Rattle.ring_model.specs.Dispatch.{step}
-use Rattle.ring_model.specs.Nodes.{IsLawful, IsSound}
 use Rattle.ring_model.specs.Runs.{IsRun, Move, is_whole_input, world}
 use Rattle.ring_model.specs.Safety.{ChosenIsValid, Runs}
 use Rattle.ring_model.specs.Worlds.{restart_actions}
+use Rattle.ring_lawful.specs.EachStep.{IsFitNode, IsFitPart}
 
 -- ---- sound and lawful
 abbrev pub EveryNodeIsSound : Type 0
-EveryNodeIsSound = (ring : Layout) (run : List Move) → IsRun ring run → (id : ℕ) → IsSound ring id ((world ring run).nodes id).durable
+EveryNodeIsSound = (ring : Layout) (run : List Move) → IsRun ring run → (id : ℕ) → IsFitPart ring id ((world ring run).nodes id).durable
 
 abbrev pub EveryRunningNodeIsLawful : Type 0
-EveryRunningNodeIsLawful = (ring : Layout) (run : List Move) → IsRun ring run → (id : ℕ) (s : Soft) → Runs (world ring run) id s → IsLawful ring id ((world ring run).nodes id).durable s
+EveryRunningNodeIsLawful = (ring : Layout) (run : List Move) → IsRun ring run → (id : ℕ) (s : Soft) → Runs (world ring run) id s → IsFitNode ring id ((world ring run).nodes id).durable s
 
 -- ---- possible
 -- a message that a node is given was sent to it
@@ -41,10 +41,10 @@ EveryPlanIsPossible = (ring : Layout) (run : List Move) → IsRun ring run
 -- ---- valid
 -- the chosen sequence is valid and has no GTID twice
 abbrev pub EveryRunChoosesValid : Type 0
-EveryRunChoosesValid = (ring : Layout) (run : List Move) → IsRun ring run → ChosenIsValid ring (world ring run)
+EveryRunChoosesValid = (ring : Layout) (run : List Move) → IsRing ring → IsRun ring run → ChosenIsValid ring (world ring run)
 
 -- and so is the log of each node, running or down, committed or not
 abbrev pub EveryLogIsValid : Type 0
-EveryLogIsValid = (ring : Layout) (run : List Move) → IsRun ring run → (id : ℕ)
+EveryLogIsValid = (ring : Layout) (run : List Move) → IsRing ring → IsRun ring run → (id : ℕ)
     → (is_valid ring.schema ((world ring run).nodes id).durable.log ≡ true)
     × ((j k : ℕ) (d e : Entry) (g : Gtid) → entry_at ((world ring run).nodes id).durable.log j ≡ Some d → entry_at ((world ring run).nodes id).durable.log k ≡ Some e → gtid_of d ≡ Some g → gtid_of e ≡ Some g → j ≡ k)

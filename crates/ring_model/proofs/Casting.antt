@@ -188,6 +188,7 @@ module _ (ring : Layout) (h : History) (id : ℕ) (d : Durable) (c : Cast) (floo
         keeps = λ s p a below own. new_cast_keeps s p (let b = no_new_acks c.voter s p a in rw may.by at b) below own;
       })
     ];
+    valid = k.valid;
     one_vote = λ e f in_e in_f by is. elim (Contains-push_cases h.casts c e in_e) [
       | inl old ↦ elim (Contains-push_cases h.casts c f in_f) [
         | inl old_f ↦ k.one_vote e f old old_f by is

@@ -84,7 +84,7 @@ module _ (ring : Layout) (h : History) (k : IsHistory ring h) where
 
   meet_in : (f e : Election) (r : ℕ) → IsElection ring h f → IsElection ring h e → Needed ring f r → Needed ring e r → Meets f e
   meet_in f e r vf ve nf ne =
-      let m = covers_meet ring r (voters_in f.grants) (voters_in e.grants) (election_covers f r vf nf) (election_covers e r ve ne) in
+      let m = covers_meet ring k.valid r (voters_in f.grants) (voters_in e.grants) (election_covers f r vf nf) (election_covers e r ve ne) in
       record { region = r; voter = m.0; needed = nf; zoned = m.1; first = in_granted f.grants m.0 m.2; second = in_granted e.grants m.0 m.3 }
 
   -- where the base of f is below e, and e is not above f, some voter granted both
@@ -214,7 +214,7 @@ module _ (ring : Layout) (h : History) (k : IsHistory ring h) where
         | inl lt ↦ held_above n s p e ih in_e lt under (base_region e ve)
         | inr ge ↦
             let cover = leaders_covered e m.election ve m.led (omega (arith, m.of_term)) (omega (arith, m.of_term)) in
-            let v = commit_meets_cover ring (region_of ring m.election.node) m.quorum (voters_in e.grants) m.reached cover.1 in
+            let v = commit_meets_cover ring k.valid (region_of ring m.election.node) m.quorum (voters_in e.grants) m.reached cover.1 in
             let g = in_granted e.grants v.0 v.3 in
             let c = ve.grants g.0 g.1 in
             let by : c.cast.voter ≡ v.0 = c.by ∙ g.2 in

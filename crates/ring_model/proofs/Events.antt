@@ -3,7 +3,7 @@ use Rattle.std.proofs.Common.{◌≡◌, ◌⊎◌, inl, inr, ℕ, ◌<◌, ◌�
 use Rattle.std.proofs.lemmas.List.{append-nil}
 use Rattle.std.specs.List.{Contains}
 use Rattle.ring_types.specs.declared.entries.Entry.{Entry}
-use Rattle.ring_types.specs.Rings.{Layout, is_member}
+use Rattle.ring_types.specs.Rings.{IsRing, Layout, is_member}
 use Rattle.ring_types.specs.declared.entries.Opid.{Opid}
 use Rattle.ring_model.specs.declared.effects.Action.{Action}
 use Rattle.ring_model.specs.Safety.{Agree}
@@ -349,11 +349,12 @@ no_acks : (v s p : ℕ) → HasAcked first_history v s p → ⊥
 no_acks v s p (As_leader e in_e t by le) = none_contained e in_e
 no_acks v s p (By_reply m q in_m by body le) = none_contained m in_m
 
-pub first_holds : (ring : Layout) → IsWorld ring first_world first_history
-first_holds ring = record {
+pub first_holds : (ring : Layout) → IsRing ring → IsWorld ring first_world first_history
+first_holds ring valid = record {
   messages = refl;
   chosen = refl;
   history = record {
+    valid = valid;
     elections = λ e in_e. absurd (none_contained e in_e);
     one_leader = λ e f in_e in_f t. absurd (none_contained e in_e);
     terms_once = λ j k e f at_j at_k t. absurd cc;

@@ -4,7 +4,7 @@ use Rattle.std.proofs.Common.{◌≡◌, ℕ, ◌+◌, ◌<◌, ◌≤◌, ◌�
 use Rattle.std.specs.List.{Contains}
 use Rattle.ring_types.specs.declared.entries.Entry.{Entry}
 use Rattle.ring_types.specs.declared.entries.Grant.{Grant}
-use Rattle.ring_types.specs.Rings.{Layout, region_of}
+use Rattle.ring_types.specs.Rings.{IsRing, Layout, region_of}
 use Rattle.ring_types.specs.declared.entries.Opid.{Opid}
 use Rattle.ring_types.specs.declared.entries.Vote.{Vote}
 use Rattle.ring_types.specs.Logs.{entry_at, last, region_at, term_at}
@@ -135,6 +135,7 @@ IsSent ring h from to _ = Unit {0}
 
 -- ---- the history as a whole
 pub record IsHistory (ring : Layout) (h : History) : Type 0 where
+  pub valid : IsRing ring
   pub elections : (e : Election) → Contains h.elections e → IsWon ring h e
   pub one_leader : (e f : Election) → Contains h.elections e → Contains h.elections f → e.term ≡ f.term → e ≡ f
   pub terms_once : (j k : ℕ) (e f : Election) → slice_get h.elections j ≡ Some e → slice_get h.elections k ≡ Some f → e.term ≡ f.term → j ≡ k

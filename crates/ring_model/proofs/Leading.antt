@@ -257,6 +257,7 @@ module _ (ring : Layout) (h : History) (id : ℕ) (d : Durable) (e : Election) (
     ];
     terms_once = led_once;
     casts = λ c in_c. cast_stays ring id h led led_grows k c in_c (k.casts c in_c);
+    valid = k.valid;
     one_vote = k.one_vote;
     sent = λ m in_m. sent_stays ring id h led led_grows m.from m.to m.body (k.sent m in_m);
     chosen = chosen_stays ring id h led led_grows (length h.chosen) h.chosen k.chosen;
@@ -352,6 +353,7 @@ module _ (ring : Layout) (h : History) (id : ℕ) (d : Durable) (e : Election) (
     one_leader = k.one_leader;
     terms_once = k.terms_once;
     casts = λ c in_c. cast_stays ring id h added added_grows k c in_c (k.casts c in_c);
+    valid = k.valid;
     one_vote = k.one_vote;
     sent = λ m in_m. sent_stays ring id h added added_grows m.from m.to m.body (k.sent m in_m);
     chosen = chosen_stays ring id h added added_grows (length h.chosen) h.chosen k.chosen;

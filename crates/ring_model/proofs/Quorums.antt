@@ -38,7 +38,7 @@ voter_in_zone ring region m c =
     (m, filter_of (λ (w : Member). w.region == region && is_voter w.kind) ring.members m c, refl, t.1, contains_listed (region ∷ []) m.region (zero, omega arith, sym same))
 
 pub commit_meets_cover : CommitMeetsCover
-commit_meets_cover ring region acks votes a b = let m = majorities_meet (voters_of ring region) acks votes a b in (m.0.id, voter_in_zone ring region m.0 m.1, m.2, m.3)
+commit_meets_cover ring valid region acks votes a b = let m = majorities_meet (voters_of ring region) acks votes a b in (m.0.id, voter_in_zone ring region m.0 m.1, m.2, m.3)
 
 pub covers_meet : CoversMeet
-covers_meet ring region some others a b = let m = majorities_meet (voters_of ring region) some others a b in (m.0.id, voter_in_zone ring region m.0 m.1, m.2, m.3)
+covers_meet ring valid region some others a b = let m = majorities_meet (voters_of ring region) some others a b in (m.0.id, voter_in_zone ring region m.0 m.1, m.2, m.3)

@@ -4,7 +4,7 @@ use Rattle.std.proofs.Common.{◌≡◌, ℕ, ◌<◌, [], ◌∷◌, ◌++◌, 
 use Rattle.std.proofs.lemmas.List.{append-nil}
 use Rattle.std.specs.List.{Contains}
 use Rattle.ring_types.specs.declared.entries.Entry.{Entry}
-use Rattle.ring_types.specs.Rings.{Layout, region_of}
+use Rattle.ring_types.specs.Rings.{IsRing, Layout, region_of}
 use Rattle.ring_model.specs.Safety.{Agree, AppliedPrefix, ChosenByLeader, ChosenGrows, ChosenOnlyGrows, EveryRunCoversLeaders, LeadersHave, LogsMatch, NeverTorn, OneLeaderATerm, ToldStands, needed_by}
 use Rattle.ring_model.specs.declared.nodes.Durable.{Durable}
 use Rattle.ring_model.specs.Runs.{Election, Move, acting, elections, elections_from, event_elections, world, world_from}
@@ -42,9 +42,9 @@ pub record Reached (ring : Layout) (run : List Move) : Type 0 where
   pub world : IsWorld ring (world ring run) history
   pub elections : history.elections ≡ elections ring run
 
-pub reached : (ring : Layout) (run : List Move) → Reached ring run
+pub reached : (ring : Layout) (run : List Move) → IsRing ring → Reached ring run
 unfolding world elections
-reached ring run = let x = run_over ring first_world first_history run (first_holds ring) in record { history = x.after; world = x.world; elections = x.elections }
+reached ring run valid = let x = run_over ring first_world first_history run (first_holds ring valid) in record { history = x.after; world = x.world; elections = x.elections }
 
 -- two worlds of one run, the second the later
 record TwoWorlds (ring : Layout) (before run : List Move) : Type 0 where
@@ -55,10 +55,10 @@ record TwoWorlds (ring : Layout) (before run : List Move) : Type 0 where
   chosen : Agree (length (world ring before).chosen) (world ring before).chosen (world ring run).chosen
   sealed : (u c : ℕ) (l : List Entry) → IsSealed ring old u c l → IsSealed ring new u c l
 
-two_worlds : (ring : Layout) (before after run : List Move) → run ≡ before ++ after → TwoWorlds ring before run
+two_worlds : (ring : Layout) (before after run : List Move) → IsRing ring → run ≡ before ++ after → TwoWorlds ring before run
 unfolding world
-two_worlds ring before after run is =
-    let x = run_over ring first_world first_history before (first_holds ring) in
+two_worlds ring before after run valid is =
+    let x = run_over ring first_world first_history before (first_holds ring valid) in
     let y = run_over ring (world_from ring first_world before) x.after after x.world in
     let same : world_from ring (world_from ring first_world before) after ≡ world_from ring first_world run = sym (world_join ring first_world before after) ∙ ap (world_from ring first_world) (sym is) in
     record {
@@ -71,9 +71,9 @@ two_worlds ring before after run is =
     }
 
 -- ---- the facts of a safe run
-applied_prefix : (ring : Layout) (run : List Move) → AppliedPrefix (world ring run)
-applied_prefix ring run =
-    let x = reached ring run in
+applied_prefix : (ring : Layout) (run : List Move) → IsRing ring → AppliedPrefix (world ring run)
+applied_prefix ring run valid =
+    let x = reached ring run valid in
     let k = x.world in
     record {
       applied = λ id. subst (λ (l : List Entry). Agree ((world ring run).nodes id).durable.applied ((world ring run).nodes id).durable.log l) k.chosen
@@ -83,9 +83,9 @@ applied_prefix ring run =
           (in_chosen ring x.history ((world ring run).nodes id).durable.term s.commit ((world ring run).nodes id).durable.log k.history r.sealed r.chosen);
     }
 
-one_leader_a_term : (ring : Layout) (run : List Move) → OneLeaderATerm (world ring run) (elections ring run)
-one_leader_a_term ring run =
-    let x = reached ring run in
+one_leader_a_term : (ring : Layout) (run : List Move) → IsRing ring → OneLeaderATerm (world ring run) (elections ring run)
+one_leader_a_term ring run valid =
+    let x = reached ring run valid in
     record {
       once = λ j k e f at_j at_k same. x.world.history.terms_once j k e f
           (subst (λ (l : List Election). slice_get l j ≡ Some e) (sym x.elections) at_j) (subst (λ (l : List Election). slice_get l k ≡ Some f) (sym x.elections) at_k) same;
@@ -93,18 +93,18 @@ one_leader_a_term ring run =
           (l.election, subst (λ (es : List Election). Contains es l.election) x.elections l.led, l.by, l.of_term);
     }
 
-told_stand : (ring : Layout) (run : List Move) → ToldStands (world ring run)
+told_stand : (ring : Layout) (run : List Move) → IsRing ring → ToldStands (world ring run)
 unfolding world
-told_stand ring run = let x = run_over ring first_world first_history run (first_holds ring) in told_stands ring (world_from ring first_world run) x.after x.world (x.told (first_told ring))
+told_stand ring run valid = let x = run_over ring first_world first_history run (first_holds ring valid) in told_stands ring (world_from ring first_world run) x.after x.world (x.told (first_told ring))
 
-logs_match : (ring : Layout) (run : List Move) → LogsMatch (world ring run)
-logs_match ring run i j position some in_i in_j same =
-    let x = reached ring run in
+logs_match : (ring : Layout) (run : List Move) → IsRing ring → LogsMatch (world ring run)
+logs_match ring run valid i j position some in_i in_j same =
+    let x = reached ring run valid in
     log_match ring x.history ((world ring run).nodes i).durable.term ((world ring run).nodes j).durable.term position ((world ring run).nodes i).durable.log ((world ring run).nodes j).durable.log
     (x.world.nodes i).log (x.world.nodes j).log some in_i in_j same
 
-chosen_grows : (ring : Layout) (run : List Move) → ChosenOnlyGrows ring run
-chosen_grows ring run before after is = (two_worlds ring before after run is).chosen
+chosen_grows : (ring : Layout) (run : List Move) → IsRing ring → ChosenOnlyGrows ring run
+chosen_grows ring run valid before after is = (two_worlds ring before after run valid is).chosen
 
 elections_join : (ring : Layout) (w : WorldState) (before after : List Move) → elections_from ring w (before ++ after) ≡ elections_from ring w before ++ elections_from ring (world_from ring w before) after
 elections_join ring w [] after = refl
@@ -113,12 +113,12 @@ elections_join ring w (m ∷ before) after =
     ∙ sym (append_assoc (event_elections ring w m) (elections_from ring (world_step ring w m.event m.completion) before) (elections_from ring (world_from ring (world_step ring w m.event m.completion) before) after))
 
 -- only a node that led the term makes the chosen sequence grow
-chosen_by_leader : (ring : Layout) (run : List Move) → ChosenByLeader ring run
+chosen_by_leader : (ring : Layout) (run : List Move) → IsRing ring → ChosenByLeader ring run
 unfolding world elections
-chosen_by_leader ring run before m is more id task acts =
+chosen_by_leader ring run valid before m is more id task acts =
     let w : WorldState = world_from ring first_world before in
     let v : WorldState = world_step ring w m.event m.completion in
-    let x = run_over ring first_world first_history before (first_holds ring) in
+    let x = run_over ring first_world first_history before (first_holds ring valid) in
     let y = event_over ring w x.after m x.world in
     let at : world_from ring first_world run ≡ v = ap (world_from ring first_world) is ∙ world_join ring first_world before (m ∷ []) in
     let led = y.grew (subst (λ (z : WorldState). length w.chosen < length z.chosen) at more) id task acts in
@@ -129,12 +129,12 @@ chosen_by_leader ring run before m is more id task acts =
     ∙ (sym (elections_join ring first_world before (m ∷ [])) ∙ ap (elections_from ring first_world) (sym is)))) in
     (led.0, subst (λ (l : List Election). Contains l led.0) held led.1, led.2, led.3 ∙ ap (λ (z : WorldState). (z.nodes id).durable.term) (sym at))
 
-never_torn_event : (ring : Layout) (run : List Move) → NeverTorn ring run
-never_torn_event ring run before after m is = let x = reached ring before in line_whole ring (world ring before) x.history m.event.what x.world
+never_torn_event : (ring : Layout) (run : List Move) → IsRing ring → NeverTorn ring run
+never_torn_event ring run valid before after m is = let x = reached ring before valid in line_whole ring (world ring before) x.history m.event.what x.world
 
-leaders_have : (ring : Layout) (run : List Move) → LeadersHave ring run
-leaders_have ring run before after i j s o is up leads le =
-    let t = two_worlds ring before after run is in
+leaders_have : (ring : Layout) (run : List Move) → IsRing ring → LeadersHave ring run
+leaders_have ring run valid before after i j s o is up leads le =
+    let t = two_worlds ring before after run valid is in
     let d : Durable = ((world ring before).nodes i).durable in
     let e : Durable = ((world ring run).nodes j).durable in
     let y = leader_in ring (world ring run) t.new j o t.new_world leads in
@@ -151,20 +151,20 @@ pub record SafeLogs (ring : Layout) (run : List Move) : Type 0 where
   pub chosen_grows : ChosenGrows ring run
   pub leaders_have : LeadersHave ring run
 
-pub safe_logs : (ring : Layout) (run : List Move) → SafeLogs ring run
-safe_logs ring run = record {
-  applied_prefix = applied_prefix ring run;
-  told_stands = told_stand ring run;
-  one_leader_a_term = one_leader_a_term ring run;
-  logs_match = logs_match ring run;
-  chosen_grows = record { grows = chosen_grows ring run; by_leader = chosen_by_leader ring run; never_torn = never_torn_event ring run };
-  leaders_have = leaders_have ring run;
+pub safe_logs : (ring : Layout) (run : List Move) → IsRing ring → SafeLogs ring run
+safe_logs ring run valid = record {
+  applied_prefix = applied_prefix ring run valid;
+  told_stands = told_stand ring run valid;
+  one_leader_a_term = one_leader_a_term ring run valid;
+  logs_match = logs_match ring run valid;
+  chosen_grows = record { grows = chosen_grows ring run valid; by_leader = chosen_by_leader ring run valid; never_torn = never_torn_event ring run valid };
+  leaders_have = leaders_have ring run valid;
 }
 
 -- ---- the cover of earlier leaders
 pub every_run_covers_leaders : EveryRunCoversLeaders
-every_run_covers_leaders ring run lawful e f in_e in_f low high =
-    let x = reached ring run in
+every_run_covers_leaders ring run valid lawful e f in_e in_f low high =
+    let x = reached ring run valid in
     let k = x.world.history in
     let led_e : Contains x.history.elections e = subst (λ (l : List Election). Contains l e) (sym x.elections) in_e in
     let led_f : Contains x.history.elections f = subst (λ (l : List Election). Contains l f) (sym x.elections) in_f in

@@ -67,6 +67,7 @@ module _ (ring : Layout) (h : History) (id : ℕ) (d : Durable) (m : Message) (k
     one_leader = k.one_leader;
     terms_once = k.terms_once;
     casts = λ c in_c. cast_stays ring id h (with_message h m) sent_grows k c in_c (k.casts c in_c);
+    valid = k.valid;
     one_vote = k.one_vote;
     sent = λ x in_x. elim (Contains-push_cases h.messages m x in_x) [
       | inl old ↦ sent_stays ring id h (with_message h m) sent_grows x.from x.to x.body (k.sent x old)

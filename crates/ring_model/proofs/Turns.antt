@@ -101,6 +101,7 @@ chosen_history ring id h l le k s =
       one_leader = k.one_leader;
       terms_once = k.terms_once;
       casts = λ c in_c. cast_stays ring id h (with_chosen h l) g k c in_c (k.casts c in_c);
+      valid = k.valid;
       one_vote = k.one_vote;
       sent = λ m in_m. sent_stays ring id h (with_chosen h l) g m.from m.to m.body (k.sent m in_m);
       chosen = chosen_stays ring id h (with_chosen h l) g (length l) l s;

@@ -2,7 +2,7 @@
 use Rattle.std.specs.Prelude.{◌≡◌, ℕ, ◌==◌, Bool, true, false, List, [], ◌∷◌, length, count_by, nat_le}
 use Rattle.std.specs.List.{list_any, Contains}
 use Rattle.ring_types.specs.declared.members.Member.{Member}
-use Rattle.ring_types.specs.Rings.{Layout, voters_of, majority, is_voter}
+use Rattle.ring_types.specs.Rings.{IsRing, Layout, voters_of, majority, is_voter}
 
 -- the number is in the list
 abbrev pub is_listed : List ℕ → ℕ → Bool
@@ -31,10 +31,10 @@ InZone ring region id =
 
 -- where acknowledgements commit a region and votes cover it, a voter in its zone is in both
 abbrev pub CommitMeetsCover : Type 0
-CommitMeetsCover = (ring : Layout) (region : ℕ) (acks votes : List ℕ) → commits ring region acks ≡ true → covers ring region votes ≡ true
+CommitMeetsCover = (ring : Layout) → IsRing ring → (region : ℕ) (acks votes : List ℕ) → commits ring region acks ≡ true → covers ring region votes ≡ true
     → (id : ℕ) × InZone ring region id × Contains acks id × Contains votes id
 
 -- where two lists of votes cover a region, a voter in its zone is in both
 abbrev pub CoversMeet : Type 0
-CoversMeet = (ring : Layout) (region : ℕ) (some others : List ℕ) → covers ring region some ≡ true → covers ring region others ≡ true
+CoversMeet = (ring : Layout) → IsRing ring → (region : ℕ) (some others : List ℕ) → covers ring region some ≡ true → covers ring region others ≡ true
     → (id : ℕ) × InZone ring region id × Contains some id × Contains others id

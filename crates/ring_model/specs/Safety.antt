@@ -4,7 +4,7 @@ use Rattle.std.specs.List.{Contains}
 use Rattle.ring_types.specs.declared.entries.Entry.{Entry}
 use Rattle.ring_types.specs.declared.entries.Opid.{Opid}
 use Rattle.ring_types.specs.declared.values.Gtid.{Gtid}
-use Rattle.ring_types.specs.Rings.{Layout, region_of, runs_engine}
+use Rattle.ring_types.specs.Rings.{IsRing, Layout, region_of, runs_engine}
 use Rattle.ring_types.specs.Logs.{entry_at, term_at, region_at, last}
 use Rattle.ring_types.specs.Rows.{is_valid}
 use Rattle.ring_types.specs.Gtids.{gtid_of}
@@ -102,7 +102,7 @@ pub record Safe (ring : Layout) (run : List Move) : Type 0 where
 -- ---- over time
 -- for every ring and every run of it
 abbrev pub EveryRunIsSafe : Type 0
-EveryRunIsSafe = (ring : Layout) (run : List Move) → IsRun ring run → Safe ring run
+EveryRunIsSafe = (ring : Layout) (run : List Move) → IsRing ring → IsRun ring run → Safe ring run
 
 -- ---- the cover of earlier leaders
 -- the term of the last entry before an election
@@ -118,4 +118,4 @@ CoversLeaders ring run = (e f : Election) → Contains (elections ring run) e �
     → (is_listed (needed_by ring f) (region_of ring e.node) ≡ true) × (covers ring (region_of ring e.node) (voters_in f.grants) ≡ true)
 
 abbrev pub EveryRunCoversLeaders : Type 0
-EveryRunCoversLeaders = (ring : Layout) (run : List Move) → IsRun ring run → CoversLeaders ring run
+EveryRunCoversLeaders = (ring : Layout) (run : List Move) → IsRing ring → IsRun ring run → CoversLeaders ring run

@@ -1,4 +1,4 @@
-use Rattle.ring_lawful.proofs.Sound.{every_node_is_sound}
+use Rattle.ring_lawful.proofs.EveryRun.{every_node_is_sound}
 use Rattle.ring_lawful.proofs.laws.law_sound.Goals as goal
 
 pub returns : goal.returns
