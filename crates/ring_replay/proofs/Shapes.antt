@@ -5,7 +5,7 @@ use Rattle.std.proofs.Math.Seq.{map-set_same}
 use Rattle.std.proofs.lemmas.List.{length-set}
 use Rattle.std.proofs.lemmas.Option.{get_or_from_slice_get}
 use Rattle.ring_types.specs.Rings.{Layout}
-use Rattle.ring_model.specs.Worlds.{Task, Handle, GoDown, ComeUp, message_at}
+use Rattle.ring_model.specs.Worlds.{Task, Handle, GoDown, ComeUp, Rest, message_at}
 use Rattle.ring_model.specs.Dispatch.{step}
 use Rattle.ring_model.specs.declared.nodes.Soft.{Soft}
 use Rattle.ring_model.specs.declared.effects.Say.{Say}
@@ -44,6 +44,7 @@ turn_shape : (ring : Layout) (v : World) (place : ℕ) (s : Shown) (task : Task)
 turn_shape ring v place s (Handle i) there = handled_shape ring v place s i s.soft there
 turn_shape ring v place s GoDown there = turned_shape v place s (downed_node s) [] [] there refl
 turn_shape ring v place s ComeUp there = turned_shape v place s (restarted_node s) [] [] there refl
+turn_shape ring v place s Rest there = passed_shape v
 
 place_shape : (ring : Layout) (v : World) (place : ℕ) (task : Task) (o : Option Shown) → slice_get v.nodes place ≡ o → IsAfter v (turn_of ring v place task o)
 place_shape ring v place task None there = passed_shape v

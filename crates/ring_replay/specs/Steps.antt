@@ -6,7 +6,7 @@ use Rattle.ring_types.specs.Rings.{Layout, is_member}
 use Rattle.ring_model.specs.Actions.{all_done}
 use Rattle.ring_model.specs.Nodes.{Node, recover, fresh_soft, empty_durable}
 use Rattle.ring_model.specs.Dispatch.{step}
-use Rattle.ring_model.specs.Worlds.{Task, Handle, GoDown, ComeUp, grown, said_in, message_at, next_from}
+use Rattle.ring_model.specs.Worlds.{Task, Handle, GoDown, ComeUp, Rest, grown, said_in, message_at, next_from}
 use Rattle.ring_model.specs.Runs.{is_whole_input}
 use Rattle.ring_model.specs.declared.nodes.Soft.{Soft}
 use Rattle.ring_model.specs.declared.effects.Step.{Step}
@@ -86,6 +86,7 @@ abbrev pub shown_turn : Layout → World → ℕ → Shown → Task → World
 shown_turn ring v place s (Handle i) = shown_handled ring v place s i s.soft
 shown_turn ring v place s GoDown = shown_turned v place (downed_node s) [] []
 shown_turn ring v place s ComeUp = shown_turned v place (restarted_node s) [] []
+shown_turn ring v place s Rest = shown_passed v
 
 -- ---- which node acts
 abbrev pub turn_of : Layout → World → ℕ → Task → Option Shown → World
