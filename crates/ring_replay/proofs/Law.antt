@@ -9,7 +9,7 @@ use Rattle.ring_types.specs.Rings.{Layout, is_member}
 use Rattle.ring_model.specs.Actions.{all_done}
 use Rattle.ring_model.specs.Nodes.{Node, recover, fresh_soft}
 use Rattle.ring_model.specs.Dispatch.{step}
-use Rattle.ring_model.specs.Worlds.{WorldState, Whole, Task, Handle, GoDown, ComeUp, world_step, shown, shown_node, turned, turn, handled, member_turn, given, moved, next_given, next_to, skipped, at_node, line_step, message_at, next_from}
+use Rattle.ring_model.specs.Worlds.{WorldState, Whole, Task, Handle, GoDown, ComeUp, Rest, passed, given_to, world_step, shown, shown_node, turned, turn, handled, member_turn, given, moved, next_given, next_to, skipped, at_node, line_step, message_at, next_from}
 use Rattle.ring_model.specs.Runs.{is_known}
 use Rattle.ring_model.specs.declared.nodes.Durable.{Durable}
 use Rattle.ring_model.specs.declared.nodes.Soft.{Soft}
@@ -60,12 +60,17 @@ handled_is ring w id place i d (Some s) only =
     let st = step ring id d s i in
     turned_is ring w id place (record { durable = all_done d st.plan.actions; soft = Some st.soft }) st.plan.messages st.plan.says only
 
+rest_is : (ring : Layout) (w : WorldState) → shown_passed (shown ring w) ≡ shown ring (passed w)
+unfolding shown
+rest_is ring w = refl
+
 turn_is : (ring : Layout) (w : WorldState) (id place : ℕ) (task : Task) → IsOnly (has_id id) ring.members place
     → shown_turn ring (shown ring w) place (shown_here id (w.nodes id)) task ≡ shown ring (turn ring w id task Whole)
 turn_is ring w id place (Handle i) only = handled_is ring w id place i (w.nodes id).durable (w.nodes id).soft only
 turn_is ring w id place GoDown only = turned_is ring w id place (record { durable = (w.nodes id).durable; soft = None }) [] [] only
 turn_is ring w id place ComeUp only =
     turned_is ring w id place (record { durable = recover (w.nodes id).durable; soft = Some (fresh_soft (w.nodes id).durable) }) [] [] only
+turn_is ring w id place Rest only = rest_is ring w
 
 -- ---- only members act
 node_at : (ring : Layout) (w : WorldState) (id place : ℕ) → IsOnly (has_id id) ring.members place
@@ -88,14 +93,28 @@ member_turn_is : (ring : Layout) (w : WorldState) (id : ℕ) (task : Task) → I
     → shown_member_turn ring (shown ring w) id task ≡ shown ring (member_turn ring w id task Whole)
 member_turn_is ring w id task once = member_turn_at ring w id task (place_of ring id) refl once
 
+-- where nothing is due the event passes, at a member and at a number that is none
+rests : (ring : Layout) (w : WorldState) (id : ℕ) → member_turn ring w id Rest Whole ≡ passed w
+rests ring w id = go (is_member ring id)
+  where
+    go : (b : Bool) → (if b then passed w else passed w) ≡ passed w
+    go true = refl
+    go false = refl
+
+rested_is : (ring : Layout) (w : WorldState) (id : ℕ) → shown_passed (shown ring w) ≡ shown ring (member_turn ring w id Rest Whole)
+rested_is ring w id = rest_is ring w ∙ ap (shown ring) (sym (rests ring w id))
+
 given_is : (ring : Layout) (w : WorldState) (o : Option Message) → IsOnce ring → shown_given ring (shown ring w) o ≡ shown ring (given ring w Whole o)
 unfolding shown
 given_is ring w None once = refl
 given_is ring w (Some m) once = member_turn_is ring w m.to (Handle (input.Deliver m)) once
 
+given_to_is : (ring : Layout) (w : WorldState) (id : ℕ) (o : Option Message) → IsOnce ring → shown_given ring (shown ring w) o ≡ shown ring (given_to ring w id Whole o)
+given_to_is ring w id None once = rested_is ring w id
+given_to_is ring w id (Some m) once = member_turn_is ring w m.to (Handle (input.Deliver m)) once
+
 at_node_is : (ring : Layout) (w : WorldState) (id : ℕ) (i : Input) → IsOnce ring → shown_at_node ring (shown ring w) id i ≡ shown ring (at_node ring w id i Whole)
-unfolding shown
-at_node_is ring w id (input.Deliver m) once = refl
+at_node_is ring w id (input.Deliver m) once = rested_is ring w id
 at_node_is ring w id i once = member_turn_is ring w id (Handle i) once
 
 -- ---- cursors
@@ -132,14 +151,13 @@ moved_is ring w id number once = moved_cursors ring w id number (place_of ring i
 
 next_given_is : (ring : Layout) (w : WorldState) (id : ℕ) (o : Option ℕ) → IsOnce ring → shown_next_given ring (shown ring w) id o ≡ shown ring (next_given ring w id Whole o)
 unfolding shown
-next_given_is ring w id None once = refl
+next_given_is ring w id None once = rested_is ring w id
 next_given_is ring w id (Some number) once =
-    ap (λ (v : World). shown_given ring v (message_at w.messages number)) (moved_is ring w id number once) ∙ given_is ring (moved w id number) (message_at w.messages number) once
+    ap (λ (v : World). shown_given ring v (message_at w.messages number)) (moved_is ring w id number once) ∙ given_to_is ring (moved w id number) id (message_at w.messages number) once
 
-skipped_is : (ring : Layout) (w : WorldState) (id : ℕ) (o : Option ℕ) → IsOnce ring → shown_skipped ring (shown ring w) id o ≡ shown ring (skipped w id o)
-unfolding shown
-skipped_is ring w id None once = refl
-skipped_is ring w id (Some number) once = ap shown_passed (moved_is ring w id number once)
+skipped_is : (ring : Layout) (w : WorldState) (id : ℕ) (o : Option ℕ) → IsOnce ring → shown_skipped ring (shown ring w) id o ≡ shown ring (skipped ring w id Whole o)
+skipped_is ring w id None once = rested_is ring w id
+skipped_is ring w id (Some number) once = ap shown_passed (moved_is ring w id number once) ∙ rested_is ring (moved w id number) id
 
 -- ---- a line, and an event
 line_is : (ring : Layout) (w : WorldState) (l : Line) → IsOnce ring → is_known ring w l ≡ true → shown_step ring (shown ring w) l ≡ shown ring (line_step ring w Whole l)
@@ -152,7 +170,7 @@ line_is ring w (line.Skip node) once known =
     ap (shown_skipped ring (shown ring w) node) (next_to_is ring w node once known) ∙ skipped_is ring w node (next_to w node) once
 line_is ring w (line.Again node) once known =
     ap (λ (cursor : ℕ). shown_given ring (shown ring w) (message_at w.messages cursor)) (cursor_is ring w node once known)
-    ∙ given_is ring w (message_at w.messages (w.cursors node)) once
+    ∙ given_to_is ring w node (message_at w.messages (w.cursors node)) once
 line_is ring w (line.Crash node) once known = member_turn_is ring w node GoDown once
 line_is ring w (line.Restart node) once known = member_turn_is ring w node ComeUp once
 
