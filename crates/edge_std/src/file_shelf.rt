@@ -1,5 +1,6 @@
 ghost use Rattle.std.specs.Prelude.{◌≡◌, ◌≤◌, IfOk, None, length};
 ghost use Rattle.edge_std.specs.Counting.{after_fetch};
+ghost use Rattle.edge_traits.specs.Counts.{last_count};
 
 use crate::reading::read_named;
 use edge_traits::{FetchError, Shelf};
@@ -41,10 +42,12 @@ impl<R: Files> Shelf for FileShelf<R> {
         ensures within { IfOk result (λ bytes. length bytes ≤ limit) }
         ensures count { self.new.faults ≡ after_fetch result self.old.faults }
         ensures later { self.old.faults ≤ self.new.faults }
+        ensures limit { self.new.faults ≤ last_count }
     {
         let answer = read_named(self.alloc, &self.files, name, limit);
+        let faults = self.faults;
         if matches!(answer, Err(FetchError::Failed)) {
-            self.faults = self.faults.saturating_add(1);
+            self.faults = faults.saturating_add(1);
         }
         answer
     }

@@ -1,6 +1,7 @@
 ghost use Rattle.std.specs.Prelude.{◌≡◌, ◌≢◌, ◌≤◌, OnOk, Err, None};
 ghost use Rattle.std.specs.Io.KnownBytes.{Appends};
 ghost use Rattle.edge_std.specs.Counting.{after_put};
+ghost use Rattle.edge_traits.specs.Counts.{last_count};
 
 use edge_traits::{Sink, SinkFault};
 use std::io;
@@ -42,12 +43,14 @@ impl<W: Write> Sink for StdSink<W> {
         ensures whole { OnOk result (Appends (W.contents self.old.output) (W.contents self.new.output) bytes.now) }
         ensures count { self.new.faults ≡ after_put result self.old.faults }
         ensures later { self.old.faults ≤ self.new.faults }
+        ensures limit { self.new.faults ≤ last_count }
         ensures plain { result ≢ Err SinkFault.Memory }
     {
+        let faults = self.faults;
         match write_out(&mut self.output, bytes) {
             Ok(()) => Ok(()),
             Err(_) => {
-                self.faults = self.faults.saturating_add(1);
+                self.faults = faults.saturating_add(1);
                 Err(SinkFault::Failed)
             }
         }

@@ -10,12 +10,12 @@ const PATH: &str = "edge_std_of_a_test.txt";
 fn files_come_whole_or_not_at_all(rt: HostRuntime) -> Result<(), Fail> {
     fs::write(&rt, PATH, "12345")?;
     let mut shelf = FileShelf::new(rt.alloc(), &rt);
-    let name = Text::from_string(String::from_str(rt.alloc(), PATH)?);
+    let name = Text::copy_of(rt.alloc(), PATH)?;
     let whole = shelf.fetch(&name, 5);
     let short = shelf.fetch(&name, 4);
     fs::remove_file(&rt, PATH)?;
     let gone = shelf.fetch(&name, 5);
-    let dot = Text::from_string(String::from_str(rt.alloc(), ".")?);
+    let dot = Text::copy_of(rt.alloc(), ".")?;
     assert!(rt; whole.is_ok_and(|bytes| bytes.as_slice() == b"12345".as_slice()));
     assert!(rt; matches!(short, Err(FetchError::TooLarge)));
     assert!(rt; matches!(gone, Err(FetchError::Absent)));

@@ -3,7 +3,7 @@ ghost use Rattle.std.specs.Prelude.{◌≡◌, ◌≤◌};
 use ring_types::List;
 use std::marker::Model;
 
-/// Which calls fail, and what was counted of them. A count stays at 2^64 - 1.
+/// The calls that are to fail, and how many came and failed. A count stays at its last value.
 #[derive(Drop)]
 pub(crate) struct FailingCalls {
     failing: List<u64>,
@@ -21,6 +21,7 @@ impl Model for FailingCalls {
 
 impl FailingCalls {
     ghost use Rattle.edge_traits.specs.Calls.{no_calls, next_fails, counted};
+    ghost use Rattle.edge_traits.specs.Counts.{last_count};
 
     pub(crate) fn new(failing: List<u64>) -> FailingCalls
         ensures { result ≡ no_calls failing }
@@ -37,11 +38,13 @@ impl FailingCalls {
         ensures fails { result ≡ next_fails self.old }
         ensures counted { self.new ≡ counted self.old }
         ensures later { self.old.faults ≤ self.new.faults }
+        ensures limit { self.new.faults ≤ last_count }
     {
         self.made = self.made.saturating_add(1);
         let fails = self.failing.as_slice().contains(&self.made);
+        let faults = self.faults;
         if fails {
-            self.faults = self.faults.saturating_add(1);
+            self.faults = faults.saturating_add(1);
         }
         fails
     }

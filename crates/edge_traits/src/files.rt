@@ -4,7 +4,7 @@ ghost use Rattle.edge_traits.specs.Fetches.{FetchIs};
 ghost use Rattle.edge_traits.specs.Files.{file_of, held};
 
 use crate::shelves::FetchError;
-use ring_types::{Duplicate, List, Text};
+use ring_types::{Duplicate, List, Memory, Text};
 use std::alloc::Global;
 
 /// A file of a shelf in memory.
@@ -12,6 +12,15 @@ use std::alloc::Global;
 pub struct ShelfFile {
     pub name: Text,
     pub bytes: List<u8>,
+}
+
+impl Duplicate for ShelfFile {
+    fn copy(&self, alloc: Global) -> Result<ShelfFile, Memory> {
+        Ok(ShelfFile {
+            name: self.name.copy(alloc)?,
+            bytes: self.bytes.copy(alloc)?,
+        })
+    }
 }
 
 /// The first file of that name.

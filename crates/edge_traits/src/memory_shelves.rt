@@ -1,5 +1,6 @@
 ghost use Rattle.std.specs.Prelude.{◌≡◌, ◌≤◌, ◌↔◌, IsTrue, IfOk, Some, Err, length};
 ghost use Rattle.edge_traits.specs.Calls.{no_calls, next_fails, counted};
+ghost use Rattle.edge_traits.specs.Counts.{last_count};
 ghost use Rattle.edge_traits.specs.Fetches.{FetchIs};
 ghost use Rattle.edge_traits.specs.Files.{held};
 
@@ -27,8 +28,8 @@ impl Model for MemoryShelf {
 }
 
 impl MemoryShelf {
-    /// `failing` says which calls of `fetch` fail, counted from 1. Where a name stands twice among the
-    /// files, the first one counts.
+    /// `failing` says which calls of `fetch` fail, counted from 1. If two files have one name, the
+    /// first is fetched.
     pub fn new(alloc: Global, files: List<ShelfFile>, failing: List<u64>) -> MemoryShelf
         ensures state { result ≡ record { files = files; calls = no_calls failing } }
         ensures told { ⟦<MemoryShelf as Shelf>⟧.files result ≡ Some (held files) }
@@ -53,6 +54,7 @@ impl Shelf for MemoryShelf {
         ensures failing { (result ≡ Err FetchError.Failed) ↔ IsTrue (next_fails self.old.calls) }
         ensures state { self.new ≡ record self.old { calls = counted self.old.calls } }
         ensures later { self.old.calls.faults ≤ self.new.calls.faults }
+        ensures limit { self.new.calls.faults ≤ last_count }
     {
         if self.calls.count() {
             return Err(FetchError::Failed);

@@ -1,5 +1,6 @@
 ghost use Rattle.std.specs.Prelude.{◌≡◌, ◌≤◌, ◌++◌, ◌↔◌, IsTrue, OnOk, OnErr, [], Some, Err};
 ghost use Rattle.edge_traits.specs.Calls.{no_calls, next_fails, counted};
+ghost use Rattle.edge_traits.specs.Counts.{last_count};
 
 use crate::failing::FailingCalls;
 use crate::sinks::{Sink, SinkFault};
@@ -54,6 +55,7 @@ impl Sink for MemorySink {
         ensures err { OnErr result (self.new ≡ record self.old { calls = counted self.old.calls }) }
         ensures failing { (result ≡ Err SinkFault.Failed) ↔ IsTrue (next_fails self.old.calls) }
         ensures later { self.old.calls.faults ≤ self.new.calls.faults }
+        ensures limit { self.new.calls.faults ≤ last_count }
     {
         if self.calls.count() {
             return Err(SinkFault::Failed);

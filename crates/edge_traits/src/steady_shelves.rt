@@ -25,7 +25,7 @@ impl Model for SteadyShelf {
 }
 
 impl SteadyShelf {
-    /// Where a name stands twice among the files, the first one counts.
+    /// If two files have one name, the first is fetched.
     pub fn new(alloc: Global, files: List<ShelfFile>) -> SteadyShelf
         ensures state { result ≡ files }
         ensures told { ⟦<SteadyShelf as Shelf>⟧.files result ≡ Some (held files) }

@@ -85,13 +85,9 @@ fn fetch_from_new(
     fetch_again(&mut shelf, name, limit)
 }
 
-fn text(alloc: Global, of: &str) -> Result<Text, AllocError> {
-    Ok(Text::from_string(String::from_str(alloc, of)?))
-}
-
 fn file(alloc: Global, name: &str, content: &str) -> Result<ShelfFile, AllocError> {
     Ok(ShelfFile {
-        name: text(alloc, name)?,
+        name: Text::copy_of(alloc, name)?,
         bytes: List::from_vec(content.as_bytes().to_vec(alloc)?),
     })
 }
@@ -128,7 +124,7 @@ fn is_fetched<H: Shelf>(
     limit: u64,
     want: &str,
 ) -> Result<bool, AllocError> {
-    let name = text(alloc, name)?;
+    let name = Text::copy_of(alloc, name)?;
     Ok(shown(&shelf.fetch(&name, limit)) == want.as_bytes())
 }
 
@@ -136,7 +132,7 @@ fn is_fetched<H: Shelf>(
 fn copy_failing(alloc: Global, fetches: &[u64], puts: &[u64]) -> Result<Copied, AllocError> {
     let mut shelf = MemoryShelf::new(alloc, files(alloc)?, numbers(alloc, fetches)?);
     let mut sink = MemorySink::new(alloc, numbers(alloc, puts)?);
-    let name = text(alloc, "b")?;
+    let name = Text::copy_of(alloc, "b")?;
     Ok(copy_file(&mut shelf, &mut sink, &name, 5))
 }
 
@@ -190,7 +186,7 @@ fn a_caller_tells_whose_failure_it_was(rt: HostRuntime) -> Result<(), Fail> {
 fn steady_forms_never_fail(rt: HostRuntime) -> Result<(), Fail> {
     let mut shelf = SteadyShelf::new(rt.alloc(), files(rt.alloc())?);
     let mut sink = SteadySink::new(rt.alloc());
-    let name = text(rt.alloc(), "b")?;
+    let name = Text::copy_of(rt.alloc(), "b")?;
     assert!(rt; copy_steadily(&mut shelf, &mut sink, &name, 4) == Copied::Refused);
     assert!(rt; copy_steadily(&mut shelf, &mut sink, &name, 5) == Copied::Whole);
     assert!(rt; sink.taken().as_slice() == b">12345".as_slice());

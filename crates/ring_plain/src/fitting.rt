@@ -3,7 +3,7 @@ ghost use Rattle.std.specs.List.{list_all};
 ghost use Rattle.std.specs.Option.{option_copied};
 ghost use Rattle.ring_types.specs.Rows as spec;
 
-use ring_types::{Change, Column, Entry, Payload, Schema, Shape, Table, Text, Value};
+use ring_types::{Change, Column, Entry, LAST_GTID, Payload, Schema, Shape, Table, Text, Value};
 
 /// Whether the value is Null.
 pub fn is_null(value: &Value) -> bool
@@ -186,13 +186,11 @@ pub fn changes_fit(schema: &Schema, changes: &[Change]) -> bool
     1 <= changes.len() && each_fits(schema, changes)
 }
 
-const LAST_NUMBER: u64 = 9223372036854775806;
-
 /// Whether the number may be that of a GTID.
 pub fn is_number(number: u64) -> bool
     ensures { result ≡ spec.is_number number }
 {
-    1 <= number && number <= LAST_NUMBER
+    1 <= number && number <= LAST_GTID
 }
 
 /// Whether what an entry holds may stand in a log over this schema.

@@ -3,8 +3,7 @@ ghost use Rattle.std.specs.List.{list_any};
 ghost use Rattle.ring_types.specs.Gtids as spec;
 ghost use Rattle.ring_types.specs.declared.values.Gtid.{Gtid};
 
-use crate::lists::joined;
-use ring_types::{Entry, Gtid, Interval, List, Memory, Payload, ServerSet};
+use ring_types::{Entry, Gtid, Interval, LAST_GTID, List, Memory, Payload, ServerSet};
 use std::alloc::Global;
 
 fn add_gtid(gtids: &mut List<Gtid>, entry: &Entry) -> Result<(), Memory>
@@ -63,10 +62,12 @@ fn with_number(alloc: Global, number: u64, numbers: &[u64]) -> Result<List<u64>,
     while let [other, others @ ..] = rest {
         if number < *other {
             passed.push(number)?;
-            return joined(alloc, passed, rest);
+            passed.extend_copies(alloc, rest)?;
+            return Ok(passed);
         }
         if number == *other {
-            return joined(alloc, passed, rest);
+            passed.extend_copies(alloc, rest)?;
+            return Ok(passed);
         }
         passed.push(*other)?;
         rest = others;
@@ -83,10 +84,12 @@ fn with_server(alloc: Global, server: u128, servers: &[u128]) -> Result<List<u12
     while let [other, others @ ..] = rest {
         if server < *other {
             passed.push(server)?;
-            return joined(alloc, passed, rest);
+            passed.extend_copies(alloc, rest)?;
+            return Ok(passed);
         }
         if server == *other {
-            return joined(alloc, passed, rest);
+            passed.extend_copies(alloc, rest)?;
+            return Ok(passed);
         }
         passed.push(*other)?;
         rest = others;
@@ -209,14 +212,12 @@ pub fn greatest_number(server: u128, log: &[Entry]) -> u64
     greatest
 }
 
-const LAST_NUMBER: u64 = 9223372036854775806;
-
-/// The number of the server's next transaction; there is none after 2^63 - 2.
+/// The number of the server's next transaction; there is none after [`LAST_GTID`].
 pub fn next_number(server: u128, log: &[Entry]) -> Option<u64>
     ensures { result ≡ spec.next_number server log.now }
 {
     let greatest = greatest_number(server, log);
-    if greatest < LAST_NUMBER {
+    if greatest < LAST_GTID {
         Some(greatest + 1)
     } else {
         None

@@ -3,7 +3,6 @@ ghost use Rattle.std.specs.Option.{option_copied};
 ghost use Rattle.ring_types.specs.Rows as spec;
 
 use crate::fitting::{has_lesser_key, has_this_key};
-use crate::lists::joined;
 use ring_types::{Change, Duplicate, List, Memory, RowRefusal, Value};
 use std::alloc::Global;
 
@@ -56,7 +55,8 @@ pub fn placed(
         rest = others;
     }
     passed.push(row.copy(alloc)?)?;
-    joined(alloc, passed, rest)
+    passed.extend_copies(alloc, rest)?;
+    Ok(passed)
 }
 
 /// Copies of the rows with a copy of this one in place of the row that has its key.

@@ -1,6 +1,6 @@
-ghost use Rattle.std.specs.Prelude.{◌≡◌, ◌++◌, IfOk, take, drop};
+ghost use Rattle.std.specs.Prelude.{◌≡◌, ◌++◌, IfOk, drop, take};
 
-use ring_types::{Duplicate, List, Memory};
+use ring_types::{Duplicate, List, Memory, after, first_of};
 use std::alloc::Global;
 
 /// Copies of the first `count` items, or of all where there are fewer.
@@ -11,10 +11,9 @@ pub fn first_items<T: Duplicate + Drop>(
 ) -> Result<List<T>, Memory>
     ensures { IfOk result (λ it. it ≡ take count items.now) }
 {
-    match items.get(..count as usize) {
-        Some(front) => joined(alloc, List::new(alloc), front),
-        None => joined(alloc, List::new(alloc), items),
-    }
+    let mut copies = List::new(alloc);
+    copies.extend_copies(alloc, first_of(items, count))?;
+    Ok(copies)
 }
 
 /// Copies of the items after the first `count`.
@@ -25,10 +24,9 @@ pub fn items_from<T: Duplicate + Drop>(
 ) -> Result<List<T>, Memory>
     ensures { IfOk result (λ it. it ≡ drop count items.now) }
 {
-    match items.get(count as usize..) {
-        Some(rest) => joined(alloc, List::new(alloc), rest),
-        None => Ok(List::new(alloc)),
-    }
+    let mut copies = List::new(alloc);
+    copies.extend_copies(alloc, after(items, count))?;
+    Ok(copies)
 }
 
 /// `front`, and after it copies of `rest`.
@@ -40,8 +38,6 @@ pub fn joined<T: Duplicate + Drop>(
     ensures { IfOk result (λ it. it ≡ front ++ rest.now) }
 {
     let mut all = front;
-    for item in rest {
-        all.push(item.copy(alloc)?)?;
-    }
+    all.extend_copies(alloc, rest)?;
     Ok(all)
 }

@@ -5,7 +5,6 @@ ghost use Rattle.ring_types.specs.Rows as spec;
 
 use crate::fitting::{fits_table, place_in, table_name};
 use crate::keyed_rows::{key_refusal, rows_after};
-use crate::lists::joined;
 use ring_types::{Change, Entry, List, Memory, Payload, RowRefusal, Schema, Value};
 use std::alloc::Global;
 
@@ -27,7 +26,9 @@ pub fn empty_tables(alloc: Global, schema: &Schema) -> Result<Tables, Memory>
 fn same_tables(alloc: Global, tables: &[List<List<Value>>]) -> Result<Tables, Memory>
     ensures { IfOk result (λ it. it ≡ tables.now) }
 {
-    joined(alloc, List::new(alloc), tables)
+    let mut copies = List::new(alloc);
+    copies.extend_copies(alloc, tables)?;
+    Ok(copies)
 }
 
 fn fits_table_at(schema: &Schema, place: usize, change: &Change) -> bool
@@ -104,9 +105,9 @@ fn with_rows_at(
     if place >= tables.len() {
         return same_tables(alloc, tables);
     }
-    let mut front = same_tables(alloc, &tables[..place])?;
-    front.push(rows)?;
-    let all = joined(alloc, front, &tables[place + 1..])?;
+    let mut all = same_tables(alloc, &tables[..place])?;
+    all.push(rows)?;
+    all.extend_copies(alloc, &tables[place + 1..])?;
     Ok(all)
 }
 

@@ -1,17 +1,10 @@
-use crate::{
-    Tables, at_least, check, first_items, greatest_number, group_size, gtids, has, last,
-    next_number, region_at, rotates, rows, term_at,
-};
+use crate::{Tables, check, greatest_number, group_size, gtids, has, next_number, rows};
 use ring_types::{
     Change, Column, Entry, Gtid, Interval, List, Memory, Opid, Payload, RegionId, RowRefusal,
     Schema, ServerSet, Shape, Table, Text, Txn, Value,
 };
 use std::alloc::Global;
 use std::test::Fail;
-
-fn text(alloc: Global, of: &str) -> Result<Text, Memory> {
-    Ok(Text::from_string(String::from_str(alloc, of)?))
-}
 
 /// A text of so many bytes.
 fn long_text(alloc: Global, bytes: usize) -> Result<Text, Memory> {
@@ -22,21 +15,15 @@ fn long_text(alloc: Global, bytes: usize) -> Result<Text, Memory> {
     Ok(Text::from_string(long))
 }
 
-fn one<T: Drop>(alloc: Global, item: T) -> Result<List<T>, Memory> {
-    let mut list = List::new(alloc);
-    list.push(item)?;
-    Ok(list)
-}
-
 fn pair<T: Drop>(alloc: Global, first: T, second: T) -> Result<List<T>, Memory> {
-    let mut both = one(alloc, first)?;
+    let mut both = List::of_one(alloc, first)?;
     both.push(second)?;
     Ok(both)
 }
 
 fn column(alloc: Global, name: &str, shape: Shape) -> Result<Column, Memory> {
     Ok(Column {
-        name: text(alloc, name)?,
+        name: Text::copy_of(alloc, name)?,
         shape,
     })
 }
@@ -46,7 +33,7 @@ fn table(alloc: Global, name: &str, of_texts: &str, limit: u16) -> Result<Table,
     let id = column(alloc, "id", Shape::Int)?;
     let of_texts = column(alloc, of_texts, Shape::Text { limit })?;
     Ok(Table {
-        name: text(alloc, name)?,
+        name: Text::copy_of(alloc, name)?,
         columns: pair(alloc, id, of_texts)?,
     })
 }
@@ -56,7 +43,7 @@ fn schema(alloc: Global) -> Result<Schema, Memory> {
     let names = table(alloc, "t", "name", 20)?;
     let bodies = table(alloc, "b", "body", 16000)?;
     Ok(Schema {
-        database: text(alloc, "app")?,
+        database: Text::copy_of(alloc, "app")?,
         tables: pair(alloc, names, bodies)?,
     })
 }
@@ -72,36 +59,36 @@ fn row(alloc: Global, id: i64, bytes: Option<usize>) -> Result<List<Value>, Memo
 
 fn insert(alloc: Global, table: &str, id: i64, bytes: usize) -> Result<Change, Memory> {
     Ok(Change::Insert {
-        table: text(alloc, table)?,
+        table: Text::copy_of(alloc, table)?,
         row: row(alloc, id, Some(bytes))?,
     })
 }
 
 fn insert_null_key(alloc: Global) -> Result<Change, Memory> {
     Ok(Change::Insert {
-        table: text(alloc, "t")?,
+        table: Text::copy_of(alloc, "t")?,
         row: pair(alloc, Value::Null, Value::Null)?,
     })
 }
 
 fn update_to_null(alloc: Global, id: i64) -> Result<Change, Memory> {
     Ok(Change::Update {
-        table: text(alloc, "t")?,
+        table: Text::copy_of(alloc, "t")?,
         row: row(alloc, id, None)?,
     })
 }
 
 fn delete(alloc: Global, id: i64) -> Result<Change, Memory> {
     Ok(Change::Delete {
-        table: text(alloc, "t")?,
+        table: Text::copy_of(alloc, "t")?,
         key: Value::Int(id),
     })
 }
 
 fn delete_of_text(alloc: Global) -> Result<Change, Memory> {
     Ok(Change::Delete {
-        table: text(alloc, "t")?,
-        key: Value::Text(text(alloc, "one")?),
+        table: Text::copy_of(alloc, "t")?,
+        key: Value::Text(Text::copy_of(alloc, "one")?),
     })
 }
 
@@ -156,7 +143,7 @@ fn early_tables(alloc: Global) -> Result<Tables, Memory> {
 
 /// The rows of `t` after the last entry, and no row of `b`.
 fn late_tables(alloc: Global) -> Result<Tables, Memory> {
-    let alone = one(alloc, row(alloc, 1, None)?)?;
+    let alone = List::of_one(alloc, row(alloc, 1, None)?)?;
     pair(alloc, alone, List::new(alloc))
 }
 
@@ -166,8 +153,7 @@ fn rows_of_a_log(rt: HostRuntime) -> Result<(), Fail> {
     let log = four_entries(rt.alloc())?;
     let early = early_tables(rt.alloc())?;
     for count in [1, 2, 3] {
-        let front = first_items(rt.alloc(), log.as_slice(), count)?;
-        let tables = rows(rt.alloc(), &schema, front.as_slice())?;
+        let tables = rows(rt.alloc(), &schema, log.prefix(count))?;
         assert_eq!(rt; tables, early, "after {count} entries");
     }
     let tables = rows(rt.alloc(), &schema, log.as_slice())?;
@@ -230,10 +216,10 @@ fn bodies(alloc: Global, rest: usize) -> Result<List<Change>, Memory> {
 fn changes_of(alloc: Global, case: u8) -> Result<List<Change>, Memory> {
     match case {
         0 => Ok(List::new(alloc)),
-        1 => one(alloc, insert(alloc, "t", 1, 0)?),
-        2 => one(alloc, insert(alloc, "t", 1, 5)?),
-        3 => one(alloc, update_to_null(alloc, 1)?),
-        4 => one(alloc, delete(alloc, 1)?),
+        1 => List::of_one(alloc, insert(alloc, "t", 1, 0)?),
+        2 => List::of_one(alloc, insert(alloc, "t", 1, 5)?),
+        3 => List::of_one(alloc, update_to_null(alloc, 1)?),
+        4 => List::of_one(alloc, delete(alloc, 1)?),
         5 => bodies(alloc, 2024),
         _ => bodies(alloc, 2025),
     }
@@ -273,7 +259,7 @@ fn numbered(alloc: Global) -> Result<List<Entry>, Memory> {
 fn numbered_sets(alloc: Global) -> Result<List<ServerSet>, Memory> {
     let front = Interval { first: 1, last: 3 };
     let of_seven = pair(alloc, front, Interval { first: 5, last: 5 })?;
-    let of_nine = one(alloc, Interval { first: 4, last: 4 })?;
+    let of_nine = List::of_one(alloc, Interval { first: 4, last: 4 })?;
     let seven = ServerSet {
         server: 7,
         intervals: of_seven,
@@ -314,38 +300,4 @@ fn next_numbers(rt: HostRuntime) -> Result<(), Fail> {
         assert_eq!(rt; next_number(server, log.as_slice()), next);
     }
     Ok(())
-}
-
-#[test]
-fn positions(rt: HostRuntime) -> Result<(), Fail> {
-    let log = four_entries(rt.alloc())?;
-    let log = log.as_slice();
-    for (position, term, region) in [(0, 0, 1), (1, 1, 2), (3, 1, 2), (4, 3, 2), (5, 0, 1)] {
-        assert_eq!(rt; term_at(log, position), term);
-        assert_eq!(rt; region_at(RegionId(1), log, position), RegionId(region));
-    }
-    let end = Opid {
-        term: 3,
-        position: 4,
-    };
-    assert_eq!(rt; last(log), end);
-    assert_eq!(rt; rotates(log), 1);
-    Ok(())
-}
-
-#[test]
-fn up_to_date(rt: HostRuntime) {
-    let end = Opid {
-        term: 3,
-        position: 4,
-    };
-    for (term, position, at_least_as_new) in [
-        (3, 4, true),
-        (3, 5, true),
-        (4, 1, true),
-        (3, 3, false),
-        (2, 9, false),
-    ] {
-        assert_eq!(rt; at_least(Opid { term, position }, end), at_least_as_new);
-    }
 }

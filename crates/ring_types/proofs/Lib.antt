@@ -1,2 +1,3 @@
 pub mod RingLaws
 pub mod Twice
+pub mod Positions

@@ -1,6 +1,7 @@
 -- GTID sets (the MySQL manual): the numbers of each server's transactions, as merged intervals.
-use Rattle.std.specs.Prelude.{ℕ, ◌+◌, ◌^◌, ◌-◌, ◌==◌, Bool, ◌&&◌, List, [], ◌∷◌, map, filter, filter_map, fold, max, nat_lt, nat_le, if◌then◌else◌, Option, Some, None}
+use Rattle.std.specs.Prelude.{ℕ, ◌+◌, ◌==◌, Bool, ◌&&◌, List, [], ◌∷◌, map, filter, filter_map, fold, max, nat_lt, nat_le, if◌then◌else◌, Option, Some, None}
 use Rattle.std.specs.List.{list_any}
+use Rattle.ring_types.specs.declared.limits.TheConstants.{LAST_GTID}
 use Rattle.ring_types.specs.declared.values.Gtid.{Gtid}
 use Rattle.ring_types.specs.declared.entries.Entry.{Entry}
 use Rattle.ring_types.specs.declared.entries.Payload.TheVariants as payload
@@ -58,6 +59,6 @@ gtids log = set_of (gtids_in log)
 abbrev pub greatest_number : ℕ → List Entry → ℕ
 greatest_number server log = fold (λ (m : ℕ) (n : ℕ). max m n) 0 (numbers_of server (gtids_in log))
 
--- the next number of a server; there is none after 2^63 - 2
+-- the number of a server's next transaction; there is none after the greatest
 abbrev pub next_number : ℕ → List Entry → Option ℕ
-next_number server log = if nat_lt (greatest_number server log) (2 ^ 63 - 2) then Some (greatest_number server log + 1) else None
+next_number server log = if nat_lt (greatest_number server log) LAST_GTID then Some (greatest_number server log + 1) else None

@@ -1,6 +1,7 @@
 -- The log: a list of entries since position 1 (Raft).
-use Rattle.std.specs.Prelude.{◌≡◌, ℕ, zero, suc, ◌^◌, ◌<◌, ◌≤◌, ◌==◌, Bool, true, false, ◌&&◌, ◌||◌, List, [], ◌∷◌, length, count_by, nat_lt, nat_le, Option, Some, None, slice_get}
+use Rattle.std.specs.Prelude.{◌≡◌, ℕ, zero, suc, ◌-◌, ◌<◌, ◌≤◌, ◌==◌, Bool, true, false, ◌&&◌, ◌||◌, List, [], ◌∷◌, length, count_by, nat_lt, nat_le, Option, Some, None, slice_get}
 use Rattle.std.specs.List.{list_any}
+use Rattle.ring_types.specs.declared.limits.TheConstants.{LAST_FILE, TERM_END}
 use Rattle.ring_types.specs.declared.entries.Opid.{Opid}
 use Rattle.ring_types.specs.declared.entries.Entry.{Entry}
 use Rattle.ring_types.specs.declared.entries.Payload.TheVariants.{NoOp, Rotate, Txn}
@@ -53,5 +54,5 @@ rotates log = count_by is_rotate log
 pub record IsLog (log : List Entry) : Type 0 where
   pub placed : (k : ℕ) (e : Entry) → entry_at log k ≡ Some e → e.opid.position ≡ k
   pub rises : (j k : ℕ) → j ≤ k → k ≤ length log → term_at log j ≤ term_at log k
-  pub short : length log < 2 ^ 62
-  pub few_files : rotates log ≤ 999998
+  pub short : length log < TERM_END
+  pub few_files : rotates log ≤ LAST_FILE - 1

@@ -1,8 +1,9 @@
 -- The ring: what is declared, when it is refused, and what is built of it (FlexiRaft's regions and voters, MyRaft's kinds).
-use Rattle.std.specs.Prelude.{◌≡◌, ℕ, ◌+◌, ◌/◌, ◌^◌, ◌<◌, ◌≤◌, ◌==◌, Bool, true, false, not, ◌&&◌, ◌||◌, List, length, map, filter, find, position, nat_lt, nat_le, bytes_eq, if◌then◌else◌, Option, Some, None, Result, Ok, Err}
+use Rattle.std.specs.Prelude.{◌≡◌, ℕ, ◌+◌, ◌/◌, ◌^◌, ◌≤◌, ◌==◌, Bool, true, false, not, ◌&&◌, ◌||◌, List, length, map, filter, find, position, nat_lt, nat_le, bytes_eq, if◌then◌else◌, Option, Some, None, Result, Ok, Err}
 use Rattle.std.specs.List.{list_any, list_all}
 use Rattle.std.specs.Option.{option_map_or}
 use Rattle.ring_types.specs.Names.{is_name, is_address, has_twice, has_text_twice}
+use Rattle.ring_types.specs.declared.limits.TheConstants.{FIRST_CLIENT, LAST_NODE, MOST_CLIENTS, MOST_COLUMNS, MOST_MEMBERS, MOST_REGIONS, MOST_TABLES, TEXT_COLUMN_BYTES}
 use Rattle.ring_types.specs.declared.members.Kind.{Kind}
 use Rattle.ring_types.specs.declared.members.Kind.TheVariants.{Full, Tailer, Learner}
 use Rattle.ring_types.specs.declared.members.Member.{Member}
@@ -82,14 +83,14 @@ address_fits None = true
 address_fits (Some at) = is_address at
 
 abbrev pub part_fits : MemberPart → Bool
-part_fits p = nat_le 1 p.id && nat_le p.id 65535 && is_name p.region && address_fits p.address
+part_fits p = nat_le 1 p.id && nat_le p.id LAST_NODE && is_name p.region && address_fits p.address
 
 abbrev pub client_fits : Address → Bool
-client_fits c = nat_le 65536 c.id && nat_lt c.id (2 ^ 32) && is_address c.at
+client_fits c = nat_le FIRST_CLIENT c.id && nat_lt c.id (2 ^ 32) && is_address c.at
 
 abbrev pub shape_fits : Shape → Bool
 shape_fits shape.Int = true
-shape_fits (shape.Text limit) = nat_le 1 limit && nat_le limit 16000
+shape_fits (shape.Text limit) = nat_le 1 limit && nat_le limit TEXT_COLUMN_BYTES
 
 abbrev pub column_fits : Column → Bool
 column_fits c = is_name c.name && shape_fits c.shape
@@ -106,7 +107,7 @@ is_in_range p = is_name p.home && list_all is_name p.regions && list_all part_fi
 
 -- ---- the refusals, in the order in which they are tested
 abbrev pub too_many : RingParts → Bool
-too_many p = nat_lt 64 (length p.members) || nat_lt 16 (length p.regions) || nat_lt 64 (length p.clients) || nat_lt 256 (length p.schema.tables)
+too_many p = nat_lt MOST_MEMBERS (length p.members) || nat_lt MOST_REGIONS (length p.regions) || nat_lt MOST_CLIENTS (length p.clients) || nat_lt MOST_TABLES (length p.schema.tables)
 
 -- a node's or a client's number, a region's name or a server's uuid stands twice
 abbrev pub twice_named : RingParts → Bool
@@ -132,9 +133,9 @@ has_voter parts name = list_any (λ (m : MemberPart). bytes_eq m.region name && 
 abbrev pub no_voter : RingParts → Bool
 no_voter p = list_any (λ r. not (has_voter p.members r)) p.regions
 
--- a table has no column or more than 64, or two of its columns have one name
+-- a table has no column or too many, or one name stands at two of its columns
 abbrev pub bad_table : Table → Bool
-bad_table t = nat_lt (length t.columns) 1 || nat_lt 64 (length t.columns) || has_text_twice (map (λ (c : Column). c.name) t.columns)
+bad_table t = nat_lt (length t.columns) 1 || nat_lt MOST_COLUMNS (length t.columns) || has_text_twice (map (λ (c : Column). c.name) t.columns)
 
 -- two tables have one name, or a table is bad
 abbrev pub bad_schema : Schema → Bool
@@ -176,7 +177,7 @@ Answers wanted (Err e) = wanted ≡ Err e
 -- ---- what every built ring is
 -- a schema such as a built ring has
 abbrev pub is_schema : Schema → Bool
-is_schema s = schema_fits s && nat_le (length s.tables) 256 && not (bad_schema s)
+is_schema s = schema_fits s && nat_le (length s.tables) MOST_TABLES && not (bad_schema s)
 
 abbrev pub region_is_declared : Layout → Member → Bool
 region_is_declared ring m = nat_le 1 m.region && nat_le m.region (length ring.regions)
@@ -185,13 +186,13 @@ abbrev pub region_has_voter : Layout → ℕ → Bool
 region_has_voter ring region = list_any (λ (m : Member). m.region == region && is_voter m.kind) ring.members
 
 abbrev pub member_fits : Member → Bool
-member_fits m = nat_le 1 m.id && nat_le m.id 65535 && address_fits m.address
+member_fits m = nat_le 1 m.id && nat_le m.id LAST_NODE && address_fits m.address
 
 -- each thing is named once, each region from 1 to their number has a voter, and all is within its limits
 pub record IsRing (ring : Layout) : Type 0 where
-  pub few_members : length ring.members ≤ 64
-  pub few_regions : length ring.regions ≤ 16
-  pub few_clients : length ring.clients ≤ 64
+  pub few_members : length ring.members ≤ MOST_MEMBERS
+  pub few_regions : length ring.regions ≤ MOST_REGIONS
+  pub few_clients : length ring.clients ≤ MOST_CLIENTS
   pub members_fit : list_all member_fits ring.members ≡ true
   pub clients_fit : list_all client_fits ring.clients ≡ true
   pub regions_are_names : list_all is_name ring.regions ≡ true

@@ -1,9 +1,10 @@
 -- Rows: which values fit a table, when the tables refuse a change, and what a list of entries makes of them (the MySQL manual's rows, keyed by the first column).
-use Rattle.std.specs.Prelude.{ℕ, ◌-◌, ◌^◌, Bool, true, false, not, ◌&&◌, List, [], ◌∷◌, length, map, filter, find, position, nat_le, bytes_eq, int_lt, if◌then◌else◌, Option, Some, None, is_none, unwrap_or, slice_get, slice_set}
+use Rattle.std.specs.Prelude.{ℕ, Bool, true, false, not, ◌&&◌, List, [], ◌∷◌, length, map, filter, find, position, nat_le, bytes_eq, int_lt, if◌then◌else◌, Option, Some, None, is_none, unwrap_or, slice_get, slice_set}
 use Rattle.std.specs.List.{list_any, list_all}
 use Rattle.std.specs.Option.{option_map_or}
 use Rattle.std.specs.Ordering.{int_eq, is_lt, nat_cmp}
 use Rattle.std.specs.Cmp.Lexicographic.{slice_cmp}
+use Rattle.ring_types.specs.declared.limits.TheConstants.{LAST_GTID}
 use Rattle.ring_types.specs.declared.values.Value.{Value}
 use Rattle.ring_types.specs.declared.values.Value.TheVariants as value
 use Rattle.ring_types.specs.declared.values.Change.{Change}
@@ -102,9 +103,9 @@ change_fits schema c = option_map_or (λ (t : Table). fits_table t c) (table_of 
 abbrev pub changes_fit : Schema → List Change → Bool
 changes_fit schema changes = nat_le 1 (length changes) && list_all (change_fits schema) changes
 
--- a GTID's number is from 1 to 2^63 - 2
+-- what may be the number of a GTID
 abbrev pub is_number : ℕ → Bool
-is_number n = nat_le 1 n && nat_le n (2 ^ 63 - 2)
+is_number n = nat_le 1 n && nat_le n LAST_GTID
 
 abbrev pub payload_fits : Schema → Payload → Bool
 payload_fits schema payload.NoOp = true

@@ -2,6 +2,7 @@
 use Rattle.std.specs.Prelude.{ℕ, ◌+◌, ◌-◌, ◌*◌, ◌/◌, ◌^◌, List, [], ◌∷◌, length, sum_by, nat_lt, nat_le, min, if◌then◌else◌}
 use Rattle.std.specs.Option.{option_map_or}
 use Rattle.ring_types.specs.Rows.{table_of, table_name}
+use Rattle.ring_types.specs.declared.limits.TheConstants.{GROUP_BYTES}
 use Rattle.ring_types.specs.declared.values.Value.{Value}
 use Rattle.ring_types.specs.declared.values.Value.TheVariants as value
 use Rattle.ring_types.specs.declared.values.Change.{Change}
@@ -86,4 +87,4 @@ group_size schema p = min (group_bytes schema p) (2 ^ 64 - 1)
 
 -- no group of a log may have more
 abbrev pub group_limit : ℕ
-group_limit = 1000000
+group_limit = GROUP_BYTES

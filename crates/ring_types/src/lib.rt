@@ -9,8 +9,12 @@
 mod duplication;
 mod entries;
 mod gtid_sets;
+mod limits;
 mod lists;
+mod logs;
+mod lookups;
 mod members;
+mod names;
 mod places;
 mod ranges;
 mod refusals;
@@ -26,8 +30,19 @@ pub use entries::{
     Anchor, Conflict, Entry, Grant, Keep, NodeId, Opid, Pair, Payload, Place, RegionId, Vote,
 };
 pub use gtid_sets::{Interval, ServerSet};
-pub use lists::List;
+pub use limits::{
+    ADDRESS_BYTES, BATCH_BYTES, BATCH_ENTRIES, CHANGES_IN_MESSAGE, FIRST_CLIENT, GROUP_BYTES,
+    LAST_FILE, LAST_GTID, LAST_NODE, LAST_ROUND, MOCK_LAG, MOST_CLIENTS, MOST_COLUMNS,
+    MOST_MEMBERS, MOST_REGIONS, MOST_TABLES, MOST_VOTES, NAME_BYTES, RING_FILE_BYTES,
+    SCHEDULE_BYTES, SILENT_BEATS, TABLE_NAME_BYTES, TERM_END, TEXT_BYTES, TEXT_COLUMN_BYTES,
+    VALUES_IN_CHANGE,
+};
+pub use lists::{List, after, first_of};
+pub use logs::{
+    at_least, entry_at, has_opid, is_rotate, last, region_at, rotates, same_opid, term_at,
+};
 pub use members::{Address, Kind, Member, MemberPart, RingParts};
+pub use names::{is_address, is_name};
 pub use rings::{BuildError, Ring};
 pub use schemas::{Column, Schema, Shape, Table};
 pub use texts::Text;

@@ -1,9 +1,30 @@
-ghost use Rattle.std.specs.Prelude.{◌≡◌, ◌++◌, ◌∷◌, [], ◌<◌, ◌↔◌, IsTrue, OnOk, OnErr, OnSome, length, slice_get, slice_set};
+ghost use Rattle.std.specs.Prelude.{◌≡◌, ◌++◌, ◌∷◌, [], ◌<◌, ◌↔◌, IfOk, IsTrue, OnOk, OnErr, OnSome, Some, drop, length, slice_get, slice_set, take};
 ghost use Rattle.std.specs.Option.{option_copied};
 
 use crate::duplication::{Duplicate, Memory};
 use std::alloc::Global;
 use std::marker::Model;
+use std::mem;
+
+/// The first `count` items, lent; all if there are fewer.
+pub fn first_of<T>(items: &[T], count: u64) -> &[T]
+    ensures { result.now ≡ take count items.now }
+{
+    match items.get(..count as usize) {
+        Some(first) => first,
+        None => items,
+    }
+}
+
+/// The items after the first `count`, lent; none if there are fewer.
+pub fn after<T>(items: &[T], count: u64) -> &[T]
+    ensures { result.now ≡ drop count items.now }
+{
+    match items.get(count as usize..) {
+        Some(rest) => rest,
+        None => &[],
+    }
+}
 
 /// A `Vec` that contracts see as the list of its items, at any depth, so that values that hold one
 /// compare as plain data.
@@ -68,9 +89,32 @@ impl<T> List<T> {
     {
         self.items.get(at)
     }
+
+    /// The first `count` items, lent; all if there are fewer.
+    pub fn prefix(&self, count: u64) -> &[T]
+        ensures { result.now ≡ take count self.now }
+    {
+        first_of(self.items.as_slice(), count)
+    }
+
+    /// The items after the first `count`, lent; none if there are fewer.
+    pub fn suffix(&self, count: u64) -> &[T]
+        ensures { result.now ≡ drop count self.now }
+    {
+        after(self.items.as_slice(), count)
+    }
 }
 
 impl<T: Drop> List<T> {
+    /// The list of one item.
+    pub fn of_one(alloc: Global, item: T) -> Result<List<T>, Memory>
+        ensures { IfOk result (λ it. it ≡ item ∷ []) }
+    {
+        let mut list = List::new(alloc);
+        list.push(item)?;
+        Ok(list)
+    }
+
     /// Puts an item at the end. Without memory the list stays as it was.
     pub fn push(&mut self, item: T) -> Result<(), Memory>
         ensures ok { OnOk result (self.new ≡ self.old ++ item ∷ []) }
@@ -79,9 +123,7 @@ impl<T: Drop> List<T> {
         self.items.push(item)?;
         Ok(())
     }
-}
 
-impl<T: Drop> List<T> {
     /// Puts an item in the place of another. Takes no memory.
     pub fn set(&mut self, at: usize, item: T)
         requires { at < length self.old }
@@ -90,9 +132,26 @@ impl<T: Drop> List<T> {
         self.items[at] = item;
     }
 
+    /// Puts an item in the place of another, and gives that one. Takes no memory.
+    pub fn replace(&mut self, at: usize, item: T) -> T
+        requires { at < length self.old }
+        ensures set { self.new ≡ slice_set self.old at item }
+        ensures was { slice_get self.old at ≡ Some result }
+    {
+        mem::replace(&mut self.items[at], item)
+    }
+
+    /// Keeps the first `length` items, or all if there are fewer. Takes no memory.
+    pub fn truncate(&mut self, length: u64)
+        ensures { self.new ≡ take length self.old }
+    {
+        self.items.truncate(length as usize);
+    }
+
     /// Moves the items of `more` to the end. Without memory the list stays as it was.
     pub fn append(&mut self, more: List<T>) -> Result<(), Memory>
-        ensures { OnOk result (self.new ≡ self.old ++ more) }
+        ensures ok { OnOk result (self.new ≡ self.old ++ more) }
+        ensures err { OnErr result (self.new ≡ self.old) }
     {
         let List { mut items } = more;
         self.items.append(&mut items)
@@ -110,13 +169,23 @@ impl<T: Copy> List<T> {
     }
 }
 
+impl<T: Duplicate + Drop> List<T> {
+    /// Puts copies of the items at the end, in order.
+    pub fn extend_copies(&mut self, alloc: Global, items: &[T]) -> Result<(), Memory>
+        ensures { OnOk result (self.new ≡ self.old ++ items.now) }
+    {
+        for item in items {
+            self.push(item.copy(alloc)?)?;
+        }
+        Ok(())
+    }
+}
+
 impl<T: Duplicate + Drop> Duplicate for List<T> {
     fn copy(&self, alloc: Global) -> Result<List<T>, Memory> {
-        let mut items = Vec::new(alloc);
-        for item in &self.items {
-            items.push(item.copy(alloc)?)?;
-        }
-        Ok(List { items })
+        let mut list = List::new(alloc);
+        list.extend_copies(alloc, self.items.as_slice())?;
+        Ok(list)
     }
 }
 

@@ -1,4 +1,5 @@
 ghost use Rattle.std.specs.Prelude.{◌≡◌, IfOk};
+ghost use Rattle.ring_types.specs.Rings.{has_engine, is_voter};
 
 use crate::duplication::{Duplicate, Memory};
 use crate::entries::{NodeId, RegionId};
@@ -14,6 +15,30 @@ pub enum Kind {
     Full,
     Tailer,
     Learner,
+}
+
+impl Kind {
+    /// Whether a member of this kind votes.
+    pub fn is_voter(self) -> bool
+        ensures { result ≡ is_voter self }
+    {
+        match self {
+            Kind::Full => true,
+            Kind::Tailer => true,
+            Kind::Learner => false,
+        }
+    }
+
+    /// Whether a member of this kind has an engine.
+    pub fn has_engine(self) -> bool
+        ensures { result ≡ has_engine self }
+    {
+        match self {
+            Kind::Full => true,
+            Kind::Tailer => false,
+            Kind::Learner => true,
+        }
+    }
 }
 
 /// A member of a built ring. `server` is its uuid as a number, big end first.

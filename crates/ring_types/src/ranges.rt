@@ -1,59 +1,37 @@
 //! Whether what is declared is in its range: names, numbers, addresses and the limits of texts.
 ghost use Rattle.std.specs.Prelude.{◌≡◌};
 ghost use Rattle.std.specs.List.{list_all};
-ghost use Rattle.ring_types.specs.Names.{is_address, is_name, is_name_byte};
+ghost use Rattle.ring_types.specs.Names.{is_name};
 ghost use Rattle.ring_types.specs.Rings.{address_fits, client_fits, column_fits, is_in_range, part_fits, schema_fits, shape_fits, table_fits};
 
+use crate::limits::{FIRST_CLIENT, LAST_NODE, TEXT_COLUMN_BYTES};
 use crate::members::{Address, MemberPart, RingParts};
+use crate::names::{is_address, is_name};
 use crate::schemas::{Column, Schema, Shape, Table};
 use crate::texts::Text;
-
-fn is_name_byte(byte: u8) -> bool
-    ensures { result ≡ is_name_byte byte }
-{
-    (b'a' <= byte && byte <= b'z')
-        || (b'A' <= byte && byte <= b'Z')
-        || (b'0' <= byte && byte <= b'9')
-        || byte == b'_'
-}
-
-fn has_name_bytes(bytes: &[u8]) -> bool
-    ensures { result ≡ list_all is_name_byte bytes.now }
-{
-    bytes.iter().all(|byte| is_name_byte(*byte))
-}
-
-fn is_name(text: &Text) -> bool
-    ensures { result ≡ is_name text.now }
-{
-    1 <= text.len() && text.len() <= 64 && has_name_bytes(text.as_str().as_bytes())
-}
-
-fn is_address(text: &Text) -> bool
-    ensures { result ≡ is_address text.now }
-{
-    1 <= text.len() && text.len() <= 255
-}
 
 fn address_fits(address: &Option<Text>) -> bool
     ensures { result ≡ address_fits address.now }
 {
     match address {
         None => true,
-        Some(at) => is_address(at),
+        Some(at) => is_address(at.as_bytes()),
     }
 }
 
 fn part_fits(part: &MemberPart) -> bool
     ensures { result ≡ part_fits part.now }
 {
-    1 <= part.id && part.id <= 65535 && is_name(&part.region) && address_fits(&part.address)
+    1 <= part.id
+        && part.id <= LAST_NODE
+        && is_name(part.region.as_bytes())
+        && address_fits(&part.address)
 }
 
 fn client_fits(client: &Address) -> bool
     ensures { result ≡ client_fits client.now }
 {
-    65536 <= client.id && is_address(&client.at)
+    FIRST_CLIENT <= client.id && is_address(client.at.as_bytes())
 }
 
 fn shape_fits(shape: Shape) -> bool
@@ -61,14 +39,14 @@ fn shape_fits(shape: Shape) -> bool
 {
     match shape {
         Shape::Int => true,
-        Shape::Text { limit } => 1 <= limit && limit <= 16000,
+        Shape::Text { limit } => 1 <= limit && limit <= TEXT_COLUMN_BYTES,
     }
 }
 
 fn column_fits(column: &Column) -> bool
     ensures { result ≡ column_fits column.now }
 {
-    is_name(&column.name) && shape_fits(column.shape)
+    is_name(column.name.as_bytes()) && shape_fits(column.shape)
 }
 
 fn columns_fit(columns: &[Column]) -> bool
@@ -80,7 +58,7 @@ fn columns_fit(columns: &[Column]) -> bool
 fn table_fits(table: &Table) -> bool
     ensures { result ≡ table_fits table.now }
 {
-    is_name(&table.name) && columns_fit(table.columns.as_slice())
+    is_name(table.name.as_bytes()) && columns_fit(table.columns.as_slice())
 }
 
 fn tables_fit(tables: &[Table]) -> bool
@@ -92,13 +70,13 @@ fn tables_fit(tables: &[Table]) -> bool
 fn schema_fits(schema: &Schema) -> bool
     ensures { result ≡ schema_fits schema.now }
 {
-    is_name(&schema.database) && tables_fit(schema.tables.as_slice())
+    is_name(schema.database.as_bytes()) && tables_fit(schema.tables.as_slice())
 }
 
 fn have_names(regions: &[Text]) -> bool
     ensures { result ≡ list_all is_name regions.now }
 {
-    regions.iter().all(|region| is_name(region))
+    regions.iter().all(|region| is_name(region.as_bytes()))
 }
 
 fn parts_fit(members: &[MemberPart]) -> bool
@@ -120,7 +98,7 @@ impl RingParts {
     pub fn is_in_range(&self) -> bool
         ensures { result ≡ is_in_range self.now }
     {
-        is_name(&self.home)
+        is_name(self.home.as_bytes())
             && have_names(self.regions.as_slice())
             && parts_fit(self.members.as_slice())
             && clients_fit(self.clients.as_slice())

@@ -4,20 +4,11 @@ ghost use Rattle.std.specs.List.{list_any};
 ghost use Rattle.ring_types.specs.Names.{has_text_twice, has_twice};
 ghost use Rattle.ring_types.specs.Rings.{bad_schema, bad_table, has_voter, is_declared, is_voter, no_region, no_voter, too_many, twice_named};
 
+use crate::limits::{MOST_CLIENTS, MOST_COLUMNS, MOST_MEMBERS, MOST_REGIONS, MOST_TABLES};
 use crate::lists::List;
-use crate::members::{Address, Kind, MemberPart, RingParts};
+use crate::members::{Address, MemberPart, RingParts};
 use crate::schemas::{Column, Schema, Table};
 use crate::texts::Text;
-
-const MOST_MEMBERS: usize = 64;
-
-const MOST_REGIONS: usize = 16;
-
-const MOST_CLIENTS: usize = 64;
-
-const MOST_TABLES: usize = 256;
-
-const MOST_COLUMNS: usize = 64;
 
 pub(crate) fn too_many(parts: &RingParts) -> bool
     ensures { result ≡ too_many parts.now }
@@ -150,7 +141,7 @@ pub(crate) fn no_region(parts: &RingParts) -> bool
 fn has_voter(members: &List<MemberPart>, region: &Text) -> bool
     ensures { result ≡ has_voter members.now region.now }
 {
-    members.as_slice().iter().any(|member| member.region == *region && member.kind != Kind::Learner)
+    members.as_slice().iter().any(|member| member.region == *region && member.kind.is_voter())
 }
 
 pub(crate) fn no_voter(parts: &RingParts) -> bool

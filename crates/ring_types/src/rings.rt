@@ -1,11 +1,11 @@
 ghost use Rattle.std.specs.Prelude.{◌≡◌, ◌≤◌, IfOk, length, true};
 ghost use Rattle.std.specs.Option.{option_copied, option_map};
-ghost use Rattle.ring_types.specs.Rings.{IsRing, Answers, built, is_in_range, layout_of, proxy_of, votes};
+ghost use Rattle.ring_types.specs.Rings.{IsRing, Answers, built, is_in_range, layout_of, proxy_of};
 
 use crate::duplication::{Duplicate, Memory};
 use crate::entries::{NodeId, RegionId};
 use crate::lists::List;
-use crate::members::{Address, Kind, Member, RingParts};
+use crate::members::{Address, Member, RingParts};
 use crate::places::{members_from, place_of};
 use crate::refusals::{bad_schema, no_region, no_voter, too_many, twice_named};
 use crate::schemas::Schema;
@@ -16,7 +16,7 @@ use std::marker::Model;
 /// Why a declared ring is refused; the causes are tested in this order.
 #[derive(Clone, Copy, Debug, PartialEq, Eq, thiserror::Error)]
 pub enum BuildError {
-    #[error("more than 64 nodes, 16 regions, 64 clients or 256 tables")]
+    #[error("too many nodes, regions, clients or tables")]
     TooMany,
     #[error("a node or client number, a region or a server uuid stands twice")]
     TwiceNamed,
@@ -109,16 +109,6 @@ impl Ring {
         ensures { result.now ≡ self.now.clients }
     {
         &self.clients
-    }
-
-    /// Whether the number is that of a member that votes.
-    pub fn voter(&self, id: NodeId) -> bool
-        ensures { result ≡ votes self.now id }
-    {
-        self.members
-            .as_slice()
-            .iter()
-            .any(|member| member.id == id && member.kind != Kind::Learner)
     }
 
     fn first_in(&self, region: RegionId) -> Option<&Member>

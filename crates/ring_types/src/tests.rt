@@ -2,7 +2,8 @@
 use crate::values::Gtid;
 use crate::{
     Address, BuildError, Change, Column, Duplicate, Entry, Kind, List, MemberPart, Memory, NodeId,
-    Opid, Payload, RegionId, Ring, RingParts, Schema, Shape, Table, Text, Txn, Value,
+    Opid, Payload, RegionId, Ring, RingParts, Schema, Shape, Table, Text, Txn, Value, at_least,
+    last, region_at, rotates, term_at,
 };
 use std::alloc::Global;
 use std::process::Abort;
@@ -26,14 +27,10 @@ enum Fault {
     ColumnTwice,
 }
 
-fn text(alloc: Global, text: &str) -> Result<Text, Memory> {
-    Ok(Text::from_string(String::from_str(alloc, text)?))
-}
-
 fn texts(alloc: Global, names: &[&str]) -> Result<List<Text>, Memory> {
     let mut made = List::new(alloc);
     for name in names {
-        made.push(text(alloc, name)?)?;
+        made.push(Text::copy_of(alloc, name)?)?;
     }
     Ok(made)
 }
@@ -47,7 +44,7 @@ fn node(
 ) -> Result<MemberPart, Memory> {
     Ok(MemberPart {
         id,
-        region: text(alloc, region)?,
+        region: Text::copy_of(alloc, region)?,
         kind,
         server,
         address: None,
@@ -72,13 +69,13 @@ fn nodes(alloc: Global) -> Result<List<MemberPart>, Memory> {
 fn client(alloc: Global, id: u32) -> Result<Address, Memory> {
     Ok(Address {
         id,
-        at: text(alloc, "127.0.0.1:9000")?,
+        at: Text::copy_of(alloc, "127.0.0.1:9000")?,
     })
 }
 
 fn column(alloc: Global, name: &str) -> Result<Column, Memory> {
     Ok(Column {
-        name: text(alloc, name)?,
+        name: Text::copy_of(alloc, name)?,
         shape: Shape::Text { limit: 20 },
     })
 }
@@ -93,26 +90,24 @@ fn columns(alloc: Global, names: &[&str]) -> Result<List<Column>, Memory> {
 
 fn table(alloc: Global, name: &str, names: &[&str]) -> Result<Table, Memory> {
     Ok(Table {
-        name: text(alloc, name)?,
+        name: Text::copy_of(alloc, name)?,
         columns: columns(alloc, names)?,
     })
 }
 
 fn schema(alloc: Global) -> Result<Schema, Memory> {
-    let mut tables = List::new(alloc);
-    tables.push(table(alloc, "notes", ["id", "note"].as_slice())?)?;
+    let notes = table(alloc, "notes", ["id", "note"].as_slice())?;
     Ok(Schema {
-        database: text(alloc, "shop")?,
-        tables,
+        database: Text::copy_of(alloc, "shop")?,
+        tables: List::of_one(alloc, notes)?,
     })
 }
 
 /// Two regions; the first member of the second is a learner.
 fn good(alloc: Global) -> Result<RingParts, Memory> {
-    let mut clients = List::new(alloc);
-    clients.push(client(alloc, 65536)?)?;
+    let clients = List::of_one(alloc, client(alloc, 65536)?)?;
     Ok(RingParts {
-        home: text(alloc, "west")?,
+        home: Text::copy_of(alloc, "west")?,
         regions: texts(alloc, ["east", "west"].as_slice())?,
         members: nodes(alloc)?,
         clients,
@@ -144,7 +139,7 @@ fn add_clients(alloc: Global, parts: &mut RingParts) -> Result<(), Memory> {
 }
 
 fn add_region(alloc: Global, parts: &mut RingParts, name: &str) -> Result<(), Memory> {
-    parts.regions.push(text(alloc, name)?)
+    parts.regions.push(Text::copy_of(alloc, name)?)
 }
 
 fn add_regions(alloc: Global, parts: &mut RingParts) -> Result<(), Memory> {
@@ -171,7 +166,7 @@ fn add_table(
 }
 
 fn move_home(alloc: Global, parts: &mut RingParts) -> Result<(), Memory> {
-    parts.home = text(alloc, "north")?;
+    parts.home = Text::copy_of(alloc, "north")?;
     Ok(())
 }
 
@@ -254,25 +249,32 @@ fn tells_its_places(rt: &impl Abort, ring: &Ring) {
     assert_eq!(rt; ring.regions().len(), 2);
     assert_eq!(rt; ring.proxy(RegionId(1)), NodeId(7));
     assert_eq!(rt; ring.proxy(RegionId(2)), NodeId(9));
-    assert!(rt; !ring.voter(NodeId(1)));
+    assert!(rt; ring.is_client(65536));
+    assert!(rt; !ring.is_client(7));
 }
 
 fn tells_its_members(rt: &impl Abort, ring: &Ring) {
-    let wanted = [(7, 1, true), (2, 1, true), (9, 2, false), (4, 2, true)];
-    assert_eq!(rt; ring.members().len(), wanted.len());
-    for (member, (id, region, votes)) in ring.members().as_slice().iter().zip(&wanted) {
-        assert_eq!(rt; member.id, NodeId(*id));
-        assert_eq!(rt; member.region, RegionId(*region));
-        assert_eq!(rt; ring.voter(member.id), *votes);
+    for (number, region, votes, runs) in [
+        (7, 1, true, true),
+        (2, 1, true, false),
+        (9, 2, false, true),
+        (4, 2, true, true),
+    ] {
+        let id = NodeId(number);
+        assert!(rt; ring.is_member(id));
+        assert_eq!(rt; ring.region_of(id), RegionId(region));
+        assert_eq!(rt; ring.voter(id), votes);
+        assert_eq!(rt; ring.runs_engine(id), runs);
+        assert_eq!(rt; ring.server_of(id), 1000 + u128::from(number));
     }
+    assert!(rt; !ring.is_member(NodeId(1)));
+    assert_eq!(rt; ring.region_of(NodeId(1)), RegionId(2));
 }
 
 fn entry(alloc: Global) -> Result<Entry, Memory> {
-    let mut row = List::new(alloc);
-    row.push(Value::Int(5))?;
-    let mut changes = List::new(alloc);
-    let table = text(alloc, "notes")?;
-    changes.push(Change::Insert { table, row })?;
+    let row = List::of_one(alloc, Value::Int(5))?;
+    let table = Text::copy_of(alloc, "notes")?;
+    let changes = List::of_one(alloc, Change::Insert { table, row })?;
     let gtid = Gtid {
         server: 1007,
         number: 1,
@@ -301,14 +303,56 @@ fn copies_what_it_is_given(rt: HostRuntime) -> Result<(), Fail> {
 fn takes_and_gives_items(rt: HostRuntime) -> Result<(), Fail> {
     let alloc = rt.alloc();
     let mut list = List::from_vec(Vec::from_slice(alloc, &[1u64, 2])?);
-    let mut more = List::new(alloc);
-    more.push(4u64)?;
     list.extend_from_slice(&[3])?;
-    list.append(more)?;
+    list.append(List::of_one(alloc, 4)?)?;
+    list.extend_copies(alloc, &[5, 6])?;
     list.set(0, 9);
-    assert_eq!(rt; list.as_slice(), [9, 2, 3, 4].as_slice());
-    assert_eq!(rt; list.get(1).copied(), Some(2));
-    assert_eq!(rt; list.len(), 4);
-    assert!(rt; !list.is_empty());
+    assert_eq!(rt; list.replace(1, 8), 2);
+    list.truncate(5);
+    assert_eq!(rt; list.as_slice(), [9, 8, 3, 4, 5].as_slice());
+    assert_eq!(rt; list.get(1).copied(), Some(8));
+    assert_eq!(rt; list.prefix(2), [9, 8].as_slice());
+    assert_eq!(rt; list.prefix(7), list.as_slice());
+    assert_eq!(rt; list.suffix(3), [4, 5].as_slice());
+    assert!(rt; list.suffix(7).is_empty());
+    Ok(())
+}
+
+/// A no-op of term 1, a rotate of term 1 and a no-op of term 3, all of region 2.
+fn three_entries(alloc: Global) -> Result<List<Entry>, Memory> {
+    let mut log = List::new(alloc);
+    log.push(plain_entry(1, 1, Payload::NoOp))?;
+    log.push(plain_entry(1, 2, Payload::Rotate))?;
+    log.push(plain_entry(3, 3, Payload::NoOp))?;
+    Ok(log)
+}
+
+fn plain_entry(term: u64, position: u64, payload: Payload) -> Entry {
+    Entry {
+        opid: Opid { term, position },
+        region: RegionId(2),
+        payload,
+    }
+}
+
+#[test]
+fn tells_what_a_log_has(rt: HostRuntime) -> Result<(), Fail> {
+    let log = three_entries(rt.alloc())?;
+    let log = log.as_slice();
+    for (position, term, region) in [(0, 0, 1), (1, 1, 2), (2, 1, 2), (3, 3, 2), (4, 0, 1)] {
+        assert_eq!(rt; term_at(log, position), term);
+        assert_eq!(rt; region_at(RegionId(1), log, position), RegionId(region));
+    }
+    assert_eq!(rt; rotates(log), 1);
+    for (term, position, at_least_as_new) in [
+        (3, 3, true),
+        (3, 4, true),
+        (4, 1, true),
+        (3, 2, false),
+        (2, 9, false),
+    ] {
+        let other = Opid { term, position };
+        assert_eq!(rt; at_least(other, last(log)), at_least_as_new);
+    }
     Ok(())
 }

@@ -37,6 +37,22 @@ impl Text {
         self.text.as_str()
     }
 
+    /// A copy of the text.
+    pub fn copy_of(alloc: Global, text: &str) -> Result<Text, Memory>
+        ensures { IfOk result (λ it. it ≡ text.now) }
+    {
+        Ok(Text {
+            text: String::from_str(alloc, text)?,
+        })
+    }
+
+    /// The text's UTF-8 bytes, lent.
+    pub fn as_bytes(&self) -> &[u8]
+        ensures { result.now ≡ self.now }
+    {
+        self.text.as_bytes()
+    }
+
     /// How many bytes the text has.
     pub fn len(&self) -> usize
         ensures { result ≡ length self.now }
@@ -54,9 +70,7 @@ impl Text {
 
 impl Duplicate for Text {
     fn copy(&self, alloc: Global) -> Result<Text, Memory> {
-        Ok(Text {
-            text: String::from_str(alloc, self.text.as_str())?,
-        })
+        Text::copy_of(alloc, self.text.as_str())
     }
 }
 

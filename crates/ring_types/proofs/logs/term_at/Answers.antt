@@ -1,6 +1,6 @@
 use Rattle.std.proofs.Common.{sym}
-use Rattle.ring_plain.proofs.Positions.{term_at-found, term_at-past}
-use Rattle.ring_plain.proofs.logs.term_at.Goals as goal
+use Rattle.ring_types.proofs.Positions.{term_at-found, term_at-past}
+use Rattle.ring_types.proofs.logs.term_at.Goals as goal
 
 pub returns-in-Some : goal.returns-in-Some
 returns-in-Some c = term_at-found c.args.log.now c.args.position c.in-Some.entry.now (sym c.in-Some.ensures)

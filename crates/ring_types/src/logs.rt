@@ -1,8 +1,10 @@
+//! What a log has at a position, and at its end. A log is a list of entries, of which the first has
+//! position 1.
 ghost use Rattle.std.specs.Prelude.{◌≡◌};
 ghost use Rattle.std.specs.Option.{option_copied};
 ghost use Rattle.ring_types.specs.Logs as spec;
 
-use ring_types::{Entry, Opid, Payload, RegionId};
+use crate::entries::{Entry, Opid, Payload, RegionId};
 
 /// The entry at a position counted from 1.
 pub fn entry_at(log: &[Entry], position: u64) -> Option<&Entry>
@@ -66,7 +68,8 @@ pub fn has_opid(log: &[Entry], opid: Opid) -> bool
     log.iter().any(|entry| same_opid(entry.opid, opid))
 }
 
-fn is_rotate(entry: &Entry) -> bool
+/// Whether the entry ends a binary log file.
+pub fn is_rotate(entry: &Entry) -> bool
     ensures { result ≡ spec.is_rotate entry.now }
 {
     match entry.payload {

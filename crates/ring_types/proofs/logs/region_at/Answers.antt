@@ -1,6 +1,6 @@
 use Rattle.std.proofs.Common.{sym}
-use Rattle.ring_plain.proofs.Positions.{region_at-found, region_at-past}
-use Rattle.ring_plain.proofs.logs.region_at.Goals as goal
+use Rattle.ring_types.proofs.Positions.{region_at-found, region_at-past}
+use Rattle.ring_types.proofs.logs.region_at.Goals as goal
 
 pub returns-in-Some : goal.returns-in-Some
 returns-in-Some c = region_at-found c.args.home c.args.log.now c.args.position c.in-Some.entry.now (sym c.in-Some.ensures)
