@@ -2,6 +2,7 @@
 use Rattle.std.specs.Prelude.{◌≡◌, ℕ, zero, suc, ◌+◌, ◌-◌, ◌^◌, ◌<◌, ◌≤◌, ◌==◌, Bool, true, false, not, ◌&&◌, List, [], ◌∷◌, ◌++◌, length, take, drop, filter, filter_map, find, nat_lt, nat_le, bytes_eq, if◌then◌else◌, Option, Some, None}
 use Rattle.std.specs.List.{list_any, list_all, Contains}
 use Rattle.std.specs.Option.{option_map_or}
+use Rattle.ring_types.specs.declared.limits.TheConstants.{MOST_VOTES}
 use Rattle.ring_types.specs.declared.entries.Opid.{Opid}
 use Rattle.ring_types.specs.declared.entries.Vote.{Vote}
 use Rattle.ring_types.specs.declared.entries.Entry.{Entry}
@@ -30,7 +31,7 @@ vote_in votes term = find (λ (v : Vote). v.term == term) votes
 
 -- a history keeps so many votes
 abbrev pub vote_limit : ℕ
-vote_limit = 1024
+vote_limit = MOST_VOTES
 
 -- one more vote has room once those up to the floor are dropped
 abbrev pub has_room : ℕ → List Vote → Bool

@@ -1,6 +1,7 @@
 -- Elections: standing for one, answering a request, counting a grant, and leading (Raft, with FlexiRaft's needed regions).
 use Rattle.std.specs.Prelude.{◌≡◌, ℕ, zero, suc, ◌+◌, ◌-◌, ◌^◌, ◌==◌, nat_lt, nat_le, if◌then◌else◌, Bool, true, false, not, ◌&&◌, ◌||◌, List, [], ◌∷◌, ◌++◌, length, map, filter, Option, Some, None}
 use Rattle.std.specs.List.{list_any}
+use Rattle.ring_types.specs.declared.limits.TheConstants.{TERM_END}
 use Rattle.ring_types.specs.declared.members.Member.{Member}
 use Rattle.ring_types.specs.declared.entries.Opid.{Opid}
 use Rattle.ring_types.specs.declared.entries.Vote.{Vote}
@@ -58,7 +59,7 @@ floor_of d s = term_at d.log s.commit
 -- a voter that does not lead, below the greatest term and length, with room for its vote
 abbrev pub may_elect : Layout → ℕ → Durable → Soft → Bool
 may_elect ring me d s =
-    votes ring me && not (is_leader s.role) && nat_lt d.term (2 ^ 62 - 1) && nat_lt (length d.log) (2 ^ 62 - 1) && has_room (floor_of d s) d.votes
+    votes ring me && not (is_leader s.role) && nat_lt d.term (TERM_END - 1) && nat_lt (length d.log) (TERM_END - 1) && has_room (floor_of d s) d.votes
 
 abbrev pub new_vote : Layout → ℕ → ℕ → Vote
 new_vote ring term candidate = record { term = term; candidate = candidate; region = region_of ring candidate }

@@ -2,6 +2,7 @@
 use Rattle.std.specs.Prelude.{◌≡◌, ℕ, zero, suc, ◌+◌, ◌-◌, ◌^◌, ◌<◌, ◌≤◌, ◌==◌, Bool, true, false, not, ◌&&◌, List, [], ◌∷◌, ◌++◌, length, map, filter, nat_le, Option, Some, None}
 use Rattle.std.specs.List.{list_any, list_all, Contains, All}
 use Rattle.std.specs.List.Sorted.{IsStrictlyIncreasing}
+use Rattle.ring_types.specs.declared.limits.TheConstants.{SILENT_BEATS, TERM_END}
 use Rattle.ring_types.specs.declared.members.Member.{Member}
 use Rattle.ring_types.specs.declared.entries.Opid.{Opid}
 use Rattle.ring_types.specs.declared.entries.Vote.{Vote}
@@ -58,7 +59,7 @@ pub record IsSound (ring : Layout) (me : ℕ) (d : Durable) : Type 0 where
   pub few_votes : length d.votes ≤ vote_limit
   pub votes_rise : IsStrictlyIncreasing (map (λ (v : Vote). v.term) d.votes)
   pub votes_below : list_all (λ (v : Vote). nat_le v.term d.term) d.votes ≡ true
-  pub term_fits : d.term < 2 ^ 62
+  pub term_fits : d.term < TERM_END
   pub log_below : (last d.log).term ≤ d.term
   pub applied_inside : d.applied ≤ length d.log
   pub pairs_in_order : ArePairsAbove d.log d.applied (kept_pairs d)
@@ -69,7 +70,7 @@ abbrev pub others : Layout → ℕ → List ℕ
 others ring me = map (λ (m : Member). m.id) (filter (λ (m : Member). not (m.id == me)) ring.members)
 
 abbrev pub PeerFits : ℕ → Peer → Type 0
-PeerFits len p = (p.matched < p.next) × (p.next ≤ len + 1) × (p.silent ≤ 3)
+PeerFits len p = (p.matched < p.next) × (p.next ≤ len + 1) × (p.silent ≤ SILENT_BEATS)
 
 abbrev pub IsPendingIn : List Entry → ℕ → Pending → Type 0
 IsPendingIn log commit p = (commit < p.opid.position) × ((e : Entry) × (entry_at log p.opid.position ≡ Some e) × (e.opid ≡ p.opid) × (gtid_of e ≡ Some p.gtid))
@@ -90,7 +91,7 @@ pub record IsLawful (ring : Layout) (me : ℕ) (d : Durable) (s : Soft) : Type 0
   pub commit_inside : s.commit ≤ length d.log
   pub engine_follows : runs_engine ring me ≡ true → s.commit ≡ d.applied
   pub learner_follows : votes ring me ≡ false → s.role ≡ Follower
-  pub candidate_short : s.role ≡ Candidate → length d.log < 2 ^ 62 - 1
+  pub candidate_short : s.role ≡ Candidate → length d.log < TERM_END - 1
   pub leads_alone : is_leader s.role ≡ false → (s.pending ≡ []) × (s.transfer ≡ transfer.Off)
   pub peers_are_others : s.role ≡ Leader → map (λ (p : Peer). p.node) s.peers ≡ others ring me
   pub peers_fit : s.role ≡ Leader → All (PeerFits (length d.log)) s.peers

@@ -1,6 +1,7 @@
 -- Replication: a leader's beat, what a member does with entries, the answers, and the proxy (Raft; MyRaft's proxied replication).
 use Rattle.std.specs.Prelude.{◌≡◌, ℕ, zero, suc, ◌+◌, ◌-◌, ◌==◌, nat_lt, nat_le, if◌then◌else◌, Bool, true, false, not, ◌&&◌, ◌||◌, List, [], ◌∷◌, ◌++◌, length, map, take, drop, Option, Some, None}
 use Rattle.std.specs.Option.{option_map_or}
+use Rattle.ring_types.specs.declared.limits.TheConstants.{BATCH_BYTES, BATCH_ENTRIES, LAST_FILE, SILENT_BEATS}
 use Rattle.ring_types.specs.declared.members.Member.{Member}
 use Rattle.ring_types.specs.declared.entries.Opid.{Opid}
 use Rattle.ring_types.specs.declared.entries.Entry.{Entry}
@@ -35,10 +36,10 @@ batch_length schema (suc count) bytes (e ∷ entries) =
     if nat_le (group_size schema e.payload) bytes then suc (batch_length schema count (bytes - group_size schema e.payload) entries) else 0
 
 abbrev pub batch_limit : ℕ
-batch_limit = 64
+batch_limit = BATCH_ENTRIES
 
 abbrev pub batch_of : Schema → List Entry → List Entry
-batch_of schema entries = take (batch_length schema batch_limit group_limit entries) entries
+batch_of schema entries = take (batch_length schema batch_limit BATCH_BYTES entries) entries
 
 abbrev pub opids_of : List Entry → List Opid
 opids_of [] = []
@@ -56,7 +57,7 @@ proxy_id ring id = option_map_or (λ (m : Member). m.id) (proxy_of ring (region_
 -- the member is in another region, is not its region's proxy, and the proxy was not silent for three beats
 abbrev pub is_proxied : Layout → ℕ → List Peer → ℕ → Bool
 is_proxied ring me peers id =
-    not (region_of ring id == region_of ring me) && not (proxy_id ring id == id) && nat_lt (silent_of peers (proxy_id ring id)) 3
+    not (region_of ring id == region_of ring me) && not (proxy_id ring id == id) && nat_lt (silent_of peers (proxy_id ring id)) SILENT_BEATS
 
 -- the opid at the position before
 abbrev pub opid_before : List Entry → ℕ → Opid
@@ -74,9 +75,9 @@ beat_to ring me d s p =
     then send_proxied me (proxy_id ring p.node) d s p.node (opid_before d.log p.next) (batch_of ring.schema (drop (p.next - 1) d.log))
     else send_direct me d s p.node (opid_before d.log p.next) (batch_of ring.schema (drop (p.next - 1) d.log))
 
--- each silent count rises, to at most 3
+-- each silent count rises, to at most three
 abbrev pub quieter : Peer → Peer
-quieter p = record p { silent = smaller_of (suc p.silent) 3 }
+quieter p = record p { silent = smaller_of (suc p.silent) SILENT_BEATS }
 
 unfoldable pub beat : Layout → ℕ → Durable → Soft → Step
 beat ring me d s =
@@ -89,7 +90,7 @@ abbrev pub file_number : List Entry → ℕ
 file_number log = suc (rotates log)
 
 abbrev pub file_limit : ℕ
-file_limit = 999999
+file_limit = LAST_FILE
 
 -- an opid or an entry that differs in term from a committed one: the least such position
 abbrev pub first_tear : List Entry → ℕ → ℕ → List ℕ → Option Tear

@@ -1,5 +1,6 @@
 -- Handing leadership over: a mock election at the target first, then the word to elect itself (MyRaft's mock elections, Raft's leadership transfer).
 use Rattle.std.specs.Prelude.{◌≡◌, ℕ, zero, suc, ◌+◌, ◌-◌, ◌^◌, ◌==◌, nat_lt, nat_le, if◌then◌else◌, Bool, true, false, not, ◌&&◌, ◌||◌, List, [], ◌∷◌, ◌++◌, length, map, filter, Option, Some, None}
+use Rattle.ring_types.specs.declared.limits.TheConstants.{LAST_ROUND, MOCK_LAG}
 use Rattle.ring_types.specs.declared.members.Member.{Member}
 use Rattle.ring_types.specs.declared.entries.Opid.{Opid}
 use Rattle.ring_types.specs.Rings.{Layout, region_of, is_voter, votes}
@@ -37,7 +38,7 @@ is_off (transfer.Mock target round client) = false
 is_off (transfer.Handing target client) = false
 
 abbrev pub round_limit : ℕ
-round_limit = 2 ^ 64 - 1
+round_limit = LAST_ROUND
 
 unfoldable pub transfer_refusal : Layout → ℕ → Soft → ℕ → Option Cause
 transfer_refusal ring me s target =
@@ -65,7 +66,7 @@ cancel s client =
 
 -- ---- the mock election at the target
 abbrev pub lag_limit : ℕ
-lag_limit = 8
+lag_limit = MOCK_LAG
 
 -- a voter passes where its log is at most so many entries behind the leader's
 abbrev pub passes : Durable → Opid → Bool

@@ -1,5 +1,6 @@
 -- A client's write and rotate: the refusals in order, and the entry that a ready leader adds (the MySQL manual's binary log and GTIDs, Raft's client commands).
 use Rattle.std.specs.Prelude.{◌≡◌, ℕ, zero, suc, ◌+◌, ◌-◌, ◌^◌, ◌==◌, nat_lt, nat_le, if◌then◌else◌, Bool, true, false, not, ◌&&◌, ◌||◌, List, [], ◌∷◌, ◌++◌, length, take, is_none, unwrap_or, Option, Some, None}
+use Rattle.ring_types.specs.declared.limits.TheConstants.{TERM_END}
 use Rattle.ring_types.specs.declared.entries.Opid.{Opid}
 use Rattle.ring_types.specs.declared.entries.Entry.{Entry}
 use Rattle.ring_types.specs.declared.entries.Pair.{Pair}
@@ -45,7 +46,7 @@ lock_of pairs (c ∷ changes) =
     elim (holder_of pairs c) [ Some p ↦ Some (cause.Locked (table_name c) (change_key c) p.opid) | None ↦ lock_of pairs changes ]
 
 abbrev pub length_limit : ℕ
-length_limit = 2 ^ 62 - 1
+length_limit = TERM_END - 1
 
 -- the node's server has no next number, or the log has no next position
 abbrev pub is_exhausted : Layout → ℕ → Durable → Bool
