@@ -28,3 +28,4 @@ pub mod Telling
 pub mod Told
 pub mod Events
 pub mod Runs
+pub mod Extremes

@@ -12,3 +12,4 @@ pub mod Worlds
 pub mod Runs
 pub mod Safety
 pub mod WellFormed
+pub mod Extremes

@@ -6,7 +6,7 @@ use Rattle.ring_types.specs.declared.entries.Opid.{Opid}
 use Rattle.ring_types.specs.declared.values.Gtid.{Gtid}
 use Rattle.ring_types.specs.Rings.{IsRing, Layout, region_of, runs_engine}
 use Rattle.ring_types.specs.Logs.{entry_at, term_at, region_at, last}
-use Rattle.ring_types.specs.Rows.{is_valid}
+use Rattle.ring_types.specs.Rows.{is_valid, rows}
 use Rattle.ring_types.specs.Gtids.{gtid_of}
 use Rattle.ring_model.specs.Quorums.{is_listed, covers}
 use Rattle.ring_model.specs.Needs.{need, voters_in}
@@ -103,6 +103,14 @@ pub record Safe (ring : Layout) (run : List Move) : Type 0 where
 -- for every ring and every run of it
 abbrev pub EveryRunIsSafe : Type 0
 EveryRunIsSafe = (ring : Layout) (run : List Move) → IsRing ring → IsRun ring run → Safe ring run
+
+-- on each node, running or down, the rows that its engine has applied are those of the first so many entries of the chosen sequence, none of which was refused
+pub record AppliesChosen (ring : Layout) (w : WorldState) : Type 0 where
+  pub rows_are : (id : ℕ) → rows ring.schema (take (w.nodes id).durable.applied (w.nodes id).durable.log) ≡ rows ring.schema (take (w.nodes id).durable.applied w.chosen)
+  pub accepted : (id : ℕ) → is_valid ring.schema (take (w.nodes id).durable.applied w.chosen) ≡ true
+
+abbrev pub EveryRunAppliesChosen : Type 0
+EveryRunAppliesChosen = (ring : Layout) (run : List Move) → IsRing ring → IsRun ring run → AppliesChosen ring (world ring run)
 
 -- ---- the cover of earlier leaders
 -- the term of the last entry before an election

@@ -13,7 +13,9 @@ mod nodes;
 mod worlds;
 
 pub use effects::{Action, Cause, Outcome, Plan, Say, Step, Tear, What};
-pub use laws::{law_commit_meets_cover, law_cover, law_covers_meet, law_need};
+pub use laws::{
+    law_batch, law_commit_meets_cover, law_cover, law_covers_meet, law_greatest, law_need, law_tear,
+};
 pub use messages::{
     Append, AppendReply, Body, Input, Message, MockReply, MockRequest, MockResult, MockStart,
     ProxyAppend, RequestVote, VoteReply,
