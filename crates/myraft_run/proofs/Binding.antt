@@ -1,10 +1,9 @@
 -- One step of the order of work after another: what is known of the whole is known of each step.
-use Rattle.std.proofs.Common.{◌≡◌, ℕ, Bool, true, false, List, Option, Some, None, Result, Ok, Err, refl, sym, ap, subst}
+use Rattle.std.proofs.Common.{◌≡◌, ℕ, Bool, true, false, List, Result, Ok, Err, refl, sym, ap, subst}
 use Rattle.std.specs.List.{list_any}
 use Rattle.edge_traits.specs.declared.shelves.FetchError.{FetchError}
 use Rattle.edge_traits.specs.declared.shelves.FetchError.TheVariants as fetch
 use Rattle.ring_types.specs.Rings.{Layout}
-use Rattle.ring_model.specs.Worlds.{first_world}
 use Rattle.ring_model.specs.declared.worlds.Event.{Event}
 use Rattle.ring_file.specs.declared.faults.RingError.{RingError}
 use Rattle.schedule_text.specs.declared.faults.ScheduleError.{ScheduleError}
@@ -12,22 +11,38 @@ use Rattle.schedule_text.specs.declared.faults.ScheduleError.TheVariants as bad
 use Rattle.myraft_run.specs.declared.stops.Stop.{Stop}
 use Rattle.myraft_run.specs.declared.stops.Stop.TheVariants as stop
 use Rattle.myraft_run.specs.declared.stops.File.{File}
-use Rattle.myraft_run.specs.Outcomes.{◌>>=◌, got, ring_or_fault, events_or_line, has_suffix, built_events, first_unknown, report_of, replayed, Gives}
+use Rattle.myraft_run.specs.Inputs.{◌>>=◌, Gives, GivesOne, built_events, events_or_line, got, has_suffix, ring_or_fault}
 
 pub bind-ok : {A B : Type 0} (r : Result A Stop) (f : A → Result B Stop) (y : B) → (r >>= f) ≡ Ok y → (x : A) × (r ≡ Ok x) × (f x ≡ Ok y)
 bind-ok (Ok x) f y h = (x, refl, h)
 bind-ok (Err e) f y h = absurd cc
 
+-- such as is wanted is given
+pub gives-one : {A : Type 0} (Wanted : Result A Stop → Type 0) (r : Result A Stop) → Wanted r → GivesOne Wanted r
+gives-one Wanted (Ok x) h = h
+gives-one Wanted (Err stop.Unbuilt) h = h
+gives-one Wanted (Err (stop.NoFile f)) h = h
+gives-one Wanted (Err (stop.TooLarge f)) h = h
+gives-one Wanted (Err (stop.ReadFault f)) h = h
+gives-one Wanted (Err (stop.BadRing e)) h = h
+gives-one Wanted (Err (stop.BadLine n)) h = h
+gives-one Wanted (Err stop.WriteFault) h = h
+gives-one Wanted (Err stop.Memory) h = tt
+
+-- what is given is such, or memory ran out
+pub gives-or : {A : Type 0} (Wanted Also : Result A Stop → Type 0) (r : Result A Stop) → ((x : Result A Stop) → Wanted x → Also x) → GivesOne Wanted r → GivesOne Also r
+gives-or Wanted Also (Ok x) more h = more (Ok x) h
+gives-or Wanted Also (Err stop.Unbuilt) more h = more (Err stop.Unbuilt) h
+gives-or Wanted Also (Err (stop.NoFile f)) more h = more (Err (stop.NoFile f)) h
+gives-or Wanted Also (Err (stop.TooLarge f)) more h = more (Err (stop.TooLarge f)) h
+gives-or Wanted Also (Err (stop.ReadFault f)) more h = more (Err (stop.ReadFault f)) h
+gives-or Wanted Also (Err (stop.BadRing e)) more h = more (Err (stop.BadRing e)) h
+gives-or Wanted Also (Err (stop.BadLine n)) more h = more (Err (stop.BadLine n)) h
+gives-or Wanted Also (Err stop.WriteFault) more h = more (Err stop.WriteFault) h
+gives-or Wanted Also (Err stop.Memory) more h = tt
+
 pub gives-same : {A : Type 0} (r : Result A Stop) → Gives r r
-gives-same (Ok x) = refl
-gives-same (Err stop.Unbuilt) = refl
-gives-same (Err (stop.NoFile f)) = refl
-gives-same (Err (stop.TooLarge f)) = refl
-gives-same (Err (stop.ReadFault f)) = refl
-gives-same (Err (stop.BadRing e)) = refl
-gives-same (Err (stop.BadLine n)) = refl
-gives-same (Err stop.WriteFault) = refl
-gives-same (Err stop.Memory) = tt
+gives-same {A} r = gives-one (λ x. r ≡ x) r refl
 
 -- a step that stops, stops what follows it
 pub gives-stopped : {A B : Type 0} (r : Result A Stop) (f : A → Result B Stop) (e : Stop) → Gives r (Err e) → Gives (r >>= f) (Err e)
@@ -68,11 +83,3 @@ built-by false events taken is h = (is, cc)
 
 pub built-ok : (events taken : List Event) → built_events events ≡ Ok taken → (list_any has_suffix events ≡ false) × (taken ≡ events)
 built-ok events taken h = built-by (list_any has_suffix events) events taken refl h
-
-replayed-by : (o : Option ℕ) (ring : Layout) (events : List Event) (text : List ℕ) → first_unknown ring first_world events ≡ o → replayed ring events ≡ Ok text
-    → (first_unknown ring first_world events ≡ None) × (text ≡ report_of ring events)
-replayed-by None ring events text is h = (is, cc)
-replayed-by (Some line) ring events text is h = absurd cc
-
-pub replayed-ok : (ring : Layout) (events : List Event) (text : List ℕ) → replayed ring events ≡ Ok text → (first_unknown ring first_world events ≡ None) × (text ≡ report_of ring events)
-replayed-ok ring events text h = replayed-by (first_unknown ring first_world events) ring events text refl h

@@ -1,7 +1,11 @@
-pub mod PutMore
-pub mod Ways
+-- ---- the order of work
 pub mod Binding
 pub mod Answering
-pub mod KnownRuns
+-- ---- the run
+pub mod Ways
+pub mod Runs
+-- ---- what it comes to
 pub mod Printing
-pub mod Completing
+pub mod Exact
+-- ---- texts
+pub mod PutMore

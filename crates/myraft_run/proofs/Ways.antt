@@ -1,44 +1,114 @@
--- The end of a way through all events is the world after them.
-use Rattle.std.proofs.Common.{◌≡◌, ℕ, ◌≤◌, List, [], length, drop, IfOk, IfErr, Option, Some, None, Result, Ok, Err, refl, sym, ap, subst, ◌∙◌, arith}
+-- The events that were taken so far are a run; the next is taken after it, or refused there.
+use Rattle.std.proofs.Common.{◌≡◌, ℕ, ◌≤◌, ◌<◌, true, false, List, [], ◌∷◌, ◌++◌, length, drop, map, IfOk, IfErr, Result, Ok, Err, refl, sym, ap, subst, suc, zero, append_assoc, ◌∙◌, arith}
 use Rattle.std.proofs.lemmas.Grind.{common_steps}
+use Rattle.std.proofs.lemmas.List.{append-nil}
+use Rattle.std.specs.List.{Contains}
 use Rattle.ring_types.specs.Rings.{Layout}
-use Rattle.ring_model.specs.Worlds.{WorldState, first_world, shown}
-use Rattle.ring_model.specs.Runs.{world_from, world, whole_moves}
+use Rattle.ring_model.specs.Worlds.{Whole, WorldState, first_world, shown, world_step}
+use Rattle.ring_model.specs.Runs.{IsRun, IsRunFrom, Move, is_known, whole_moves, world, world_from}
 use Rattle.ring_model.specs.declared.worlds.Event.{Event}
 use Rattle.ring_model.specs.declared.worlds.World.{World}
+use Rattle.ring_model.proofs.Lists.{map_of}
 use Rattle.report_text.specs.Report.{report}
 use Rattle.myraft_run.specs.declared.stops.Stop.{Stop}
 use Rattle.myraft_run.specs.declared.stops.Stop.TheVariants as stop
-use Rattle.myraft_run.specs.Outcomes.{first_unknown, report_of, replayed, Gives}
+use Rattle.myraft_run.specs.Inputs.{GivesOne}
+use Rattle.myraft_run.specs.Replays.{IsRunOf, Refuses, Replays}
+use Rattle.myraft_run.specs.Parts.{Takes}
 
--- the world that is shown after so many events: what is left of them comes to what all come to
+-- ---- runs of whole moves
+moves_join : (a b : List Event) → whole_moves (a ++ b) ≡ whole_moves a ++ whole_moves b
+moves_join [] b = refl
+moves_join (e ∷ a) b = ap (λ (ms : List Move). record { event = e; completion = Whole } ∷ ms) (moves_join a b)
+
+pub world_on : (ring : Layout) (w : WorldState) (a b : List Move) → world_from ring w (a ++ b) ≡ world_from ring (world_from ring w a) b
+world_on ring w [] b = refl
+world_on ring w (m ∷ a) b = world_on ring (world_step ring w m.event m.completion) a b
+
+run_on : (ring : Layout) (w : WorldState) (a b : List Move) → IsRunFrom ring w a → IsRunFrom ring (world_from ring w a) b → IsRunFrom ring w (a ++ b)
+run_on ring w [] b x y = y
+run_on ring w (m ∷ a) b x y = (x.0, x.1, run_on ring (world_step ring w m.event m.completion) a b x.2 y)
+
+events_of_moves : (events : List Event) → map (λ (m : Move). m.event) (whole_moves events) ≡ events
+events_of_moves [] = refl
+events_of_moves (e ∷ events) = ap (λ (es : List Event). e ∷ es) (events_of_moves events)
+
+moves_whole : (events : List Event) (m : Move) → Contains (whole_moves events) m → m.completion ≡ Whole
+moves_whole events m c = let x = map_of (λ (e : Event). record { event = e; completion = Whole }) events m c in ap (λ (n : Move). n.completion) (sym x.2)
+
+pub whole_run : (ring : Layout) (events : List Event) → IsRun ring (whole_moves events) → IsRunOf ring events (whole_moves events)
+whole_run ring events is = record { of_events = events_of_moves events; all_whole = moves_whole events; is_run = is }
+
+-- ---- so far
+-- the events that were taken are a run, and the world that is shown is the one after it
 pub record OnTheWay (ring : Layout) (events : List Event) (taken : ℕ) (now : World) : Type 0 where
-  pub state : WorldState
-  pub is_shown : now ≡ shown ring state
-  pub unknown : first_unknown ring state (drop taken events) ≡ first_unknown ring first_world events
-  pub ends : world_from ring state (whole_moves (drop taken events)) ≡ world ring (whole_moves events)
+  pub before : List Event
+  pub split : events ≡ before ++ drop taken events
+  pub is_run : IsRun ring (whole_moves before)
+  pub is_shown : now ≡ shown ring (world ring (whole_moves before))
+
+one_more : (ring : Layout) (before : List Event) (e : Event) → IsRun ring (whole_moves before) → is_known ring (world ring (whole_moves before)) e.what ≡ true → IsRun ring (whole_moves (before ++ e ∷ []))
+unfolding world
+one_more ring before e is known = subst (IsRun ring) (sym (moves_join before (e ∷ []))) (run_on ring first_world (whole_moves before) (whole_moves (e ∷ [])) is (known, tt, tt))
+
+world_more : (ring : Layout) (before : List Event) (e : Event) → world ring (whole_moves (before ++ e ∷ [])) ≡ world_step ring (world ring (whole_moves before)) e Whole
+unfolding world
+world_more ring before e = ap (world_from ring first_world) (moves_join before (e ∷ [])) ∙ world_on ring first_world (whole_moves before) (whole_moves (e ∷ []))
+
+pub way-first : (ring : Layout) (events : List Event) (now : World) → now ≡ shown ring first_world → OnTheWay ring events 0 now
+unfolding world
+way-first ring events now is = record { before = []; split = refl; is_run = tt; is_shown = is }
+
+-- the next event was taken
+pub way-on : (ring : Layout) (events : List Event) (taken : ℕ) (now then : World) (e : Event) → OnTheWay ring events taken now → drop taken events ≡ e ∷ drop (suc taken) events
+    → ((w : WorldState) → now ≡ shown ring w → (is_known ring w e.what ≡ true) × (then ≡ shown ring (world_step ring w e Whole))) → OnTheWay ring events (suc taken) then
+way-on ring events taken now then e x next takes =
+    let y = takes (world ring (whole_moves x.before)) x.is_shown in
+    record {
+      before = x.before ++ e ∷ [];
+      split = x.split ∙ (ap (λ (rest : List Event). x.before ++ rest) next ∙ sym (append_assoc x.before (e ∷ []) (drop (suc taken) events)));
+      is_run = one_more ring x.before e x.is_run y.0;
+      is_shown = y.1 ∙ ap (shown ring) (sym (world_more ring x.before e));
+    }
+
+-- the next event was refused
+pub way-refused : (ring : Layout) (events : List Event) (taken line : ℕ) (now : World) (e : Event) → OnTheWay ring events taken now → drop taken events ≡ e ∷ drop (suc taken) events
+    → ((w : WorldState) → now ≡ shown ring w → (is_known ring w e.what ≡ false) × (line ≡ e.line)) → Refuses ring events line
+way-refused ring events taken line now e x next refuses =
+    let y = refuses (world ring (whole_moves x.before)) x.is_shown in
+    record {
+      before = x.before;
+      refused = e;
+      after = drop (suc taken) events;
+      split = x.split ∙ ap (λ (rest : List Event). x.before ++ rest) next;
+      run = whole_moves x.before;
+      runs = whole_run ring x.before x.is_run;
+      unknown = y.0;
+      at_line = y.1;
+    }
+
+-- a stop at an event is its line, or want of memory
+pub way-stopped : (ring : Layout) (events : List Event) (taken : ℕ) (now then : World) (e : Event) (s : Stop) → OnTheWay ring events taken now → drop taken events ≡ e ∷ drop (suc taken) events
+    → ((w : WorldState) → now ≡ shown ring w → Takes ring w e then (Err s)) → GivesOne (Replays ring events) (Err s)
+way-stopped ring events taken now then e (stop.BadLine line) x next takes = way-refused ring events taken line now e x next takes
+way-stopped ring events taken now then e stop.Memory x next takes = tt
+way-stopped ring events taken now then e stop.Unbuilt x next takes = absurd (takes (world ring (whole_moves x.before)) x.is_shown)
+way-stopped ring events taken now then e (stop.NoFile f) x next takes = absurd (takes (world ring (whole_moves x.before)) x.is_shown)
+way-stopped ring events taken now then e (stop.TooLarge f) x next takes = absurd (takes (world ring (whole_moves x.before)) x.is_shown)
+way-stopped ring events taken now then e (stop.ReadFault f) x next takes = absurd (takes (world ring (whole_moves x.before)) x.is_shown)
+way-stopped ring events taken now then e (stop.BadRing f) x next takes = absurd (takes (world ring (whole_moves x.before)) x.is_shown)
+way-stopped ring events taken now then e stop.WriteFault x next takes = absurd (takes (world ring (whole_moves x.before)) x.is_shown)
 
 drop-none : {A : Type 0} (xs : List A) (n : ℕ) → length xs ≤ n → drop n xs ≡ []
 drop-none xs n h = grind (arith, common_steps)
 
-pub told-text : (ring : Layout) (events : List Event) (o : Option ℕ) → first_unknown ring first_world events ≡ o → o ≡ None → replayed ring events ≡ Ok (report_of ring events)
-told-text ring events None is none = let f : Option ℕ → Result (List ℕ) Stop = λ (x : Option ℕ). elim x [ None ↦ Ok (report_of ring events) | Some line ↦ Err (stop.BadLine line) ] in ap f is
-told-text ring events (Some line) is none = absurd cc
-
-report-here : (ring : Layout) (events : List Event) (now : World) → now ≡ shown ring (world ring (whole_moves events)) → report ring now ≡ report_of ring events
-unfolding report_of
-report-here ring events now e = ap (report ring) e
-
-pub replayed_all : (ring : Layout) (events : List Event) (taken : ℕ) (now : World) (result : Result (List ℕ) Stop) → OnTheWay ring events taken now → length events ≤ taken
-    → IfOk result (λ text. text ≡ report ring now) → IfErr result (λ s. s ≡ stop.Memory) → Gives (replayed ring events) result
-replayed_all ring events taken now (Err s) w all text memory =
-    let P : Stop → Type 0 = λ e. Gives (replayed ring events) (Err e) in
+-- all events were taken
+pub way-done : (ring : Layout) (events : List Event) (taken : ℕ) (now : World) (result : Result (List ℕ) Stop) → OnTheWay ring events taken now → length events ≤ taken
+    → IfOk result (λ text. text ≡ report ring now) → IfErr result (λ s. s ≡ stop.Memory) → GivesOne (Replays ring events) result
+way-done ring events taken now (Err s) x all text memory =
+    let P : Stop → Type 0 = λ e. GivesOne (Replays ring events) (Err e) in
     subst P (sym memory) tt
-replayed_all ring events taken now (Ok t) w all text memory =
-    let done = drop-none events taken all in
-    let P : List Event → Type 0 = λ es. first_unknown ring w.state es ≡ first_unknown ring first_world events in
-    let Q : List Event → Type 0 = λ es. world_from ring w.state (whole_moves es) ≡ world ring (whole_moves events) in
-    let none : first_unknown ring first_world events ≡ None = sym (subst P done w.unknown) in
-    let end : w.state ≡ world ring (whole_moves events) = subst Q done w.ends in
-    let here = report-here ring events now (w.is_shown ∙ ap (shown ring) end) in
-    told-text ring events (first_unknown ring first_world events) refl none ∙ ap Ok (sym (text ∙ here))
+way-done ring events taken now (Ok t) x all text memory =
+    let same : events ≡ x.before = x.split ∙ (ap (λ (rest : List Event). x.before ++ rest) (drop-none events taken all) ∙ append-nil x.before) in
+    let P : List Event → Type 0 = λ es. (run : List Move) × IsRunOf ring es run × (t ≡ report ring (shown ring (world ring run))) in
+    subst P (sym same) (whole_moves x.before, whole_run ring x.before x.is_run, text ∙ ap (report ring) x.is_shown)

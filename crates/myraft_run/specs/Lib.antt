@@ -1,5 +1,7 @@
-pub mod Stops
+pub mod Spans
 pub mod Words
-pub mod Outcomes
-pub mod Ends
-pub mod Works
+pub mod Stops
+pub mod Inputs
+pub mod Replays
+pub mod Command
+pub mod Parts

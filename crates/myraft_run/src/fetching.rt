@@ -1,6 +1,7 @@
 ghost use Rattle.std.specs.Prelude.{◌≡◌, ◌≤◌};
-ghost use Rattle.myraft_run.specs.Outcomes as spec;
-ghost use Rattle.myraft_run.specs.Works.{Fetches};
+ghost use Rattle.myraft_run.specs.Inputs as spec;
+ghost use Rattle.myraft_run.specs.Parts.{Fetches};
+ghost use Rattle.myraft_run.specs.Spans.{shelf_span};
 
 use crate::stops::{File, Stop};
 use edge_traits::{FetchError, Shelf};
@@ -25,7 +26,7 @@ pub(crate) fn fetch<H: Shelf>(
     name: &Text,
     limit: u64,
 ) -> Result<List<u8>, Stop>
-    ensures fetches { Fetches (H.files shelf.old) (H.faults shelf.old) (H.faults shelf.new) name.now limit file result }
+    ensures fetches { Fetches (shelf_span H.files H.faults shelf.old shelf.new) name.now limit file result }
     ensures same { H.files shelf.new ≡ H.files shelf.old }
     ensures later { H.faults shelf.old ≤ H.faults shelf.new }
 {

@@ -1,19 +1,20 @@
 //! What `replay RING SCHEDULE` does: it takes a ring through the events of a schedule and writes
 //! the report of the world that comes of it.
 //!
-//! [`run`] is the one public call; `text_of` in `specs/Outcomes.antt` defines in which order it works.
+//! [`run`] is the one public call, and its contract the theorem of this repository: `specs/Command.antt`
+//! has its clauses, `specs/Inputs.antt` the order of work, `specs/Replays.antt` how a schedule ends.
 //! The output is first touched when all events are taken; at any status but 0 the errors get a line.
 #![tactic(auto)]
 
+mod command;
 mod fetching;
-mod jobs;
 mod lines;
+mod reading;
 mod replaying;
-mod running;
 mod stops;
 #[cfg(test)]
 mod tests;
 mod words;
 
-pub use running::run;
+pub use command::run;
 pub use stops::{File, Status, Stop};

@@ -1,6 +1,7 @@
 ghost use Rattle.std.specs.Prelude.{◌≡◌, ◌≤◌, ◌++◌, IfSome, map, string_bytes, codes, decimal};
 ghost use Rattle.edge_traits.specs.Puts.{PutIs, PutFails};
-ghost use Rattle.myraft_run.specs.Ends.{Tells};
+ghost use Rattle.myraft_run.specs.Command.{Tells};
+ghost use Rattle.myraft_run.specs.Spans.{sink_span};
 ghost use Rattle.myraft_run.specs.Stops as spec;
 
 use crate::stops::Stop;
@@ -131,7 +132,7 @@ fn put_line<E: Sink>(err: &mut E, words: &[String], stop: &Stop) -> Result<(), S
 
 /// Writes the line of a stop. A fault of the errors changes nothing else.
 pub(crate) fn tell<E: Sink>(err: &mut E, words: &[String], stop: &Stop)
-    ensures { Tells (spec.line_of (map string_bytes words.now) stop.now) (E.taken err.old) (E.taken err.new) (E.faults err.old) (E.faults err.new) }
+    ensures { Tells (spec.line_of (map string_bytes words.now) stop.now) (sink_span E.taken E.faults err.old err.new) }
 {
     let _ = put_line(err, words, stop);
 }

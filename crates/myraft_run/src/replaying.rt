@@ -1,59 +1,18 @@
 ghost use Rattle.std.specs.Prelude.{◌≡◌, ◌+◌, ◌-◌, ◌^◌, ◌<◌, OnOk, IfOk, IfErr};
-ghost use Rattle.std.specs.List.{list_any};
+ghost use Rattle.ring_types.specs.Rings.{IsRing};
 ghost use Rattle.ring_model.specs.Worlds.{WorldState, first_world, shown};
 ghost use Rattle.ring_replay.specs.Replays.{IsHeld};
-ghost use Rattle.ring_file.specs.Documents.{ring_of};
-ghost use Rattle.schedule_text.specs.Schedules.{events_of};
 ghost use Rattle.report_text.specs.Report.{report};
-ghost use Rattle.myraft_run.specs.Outcomes as spec;
-ghost use Rattle.myraft_run.specs.Outcomes.{Gives};
-ghost use Rattle.myraft_run.specs.Works.{Takes};
+ghost use Rattle.myraft_run.specs.Inputs.{GivesOne};
+ghost use Rattle.myraft_run.specs.Replays.{Replays};
+ghost use Rattle.myraft_run.specs.Parts.{Takes};
 
 use crate::stops::Stop;
 use report_text::write_report;
-use ring_file::{RingError, read_ring};
 use ring_model::Event;
 use ring_replay::{EventError, Replay};
 use ring_types::{List, Ring};
-use schedule_text::{ScheduleError, read_schedule};
 use std::alloc::Global;
-
-/// The ring of a ring file.
-pub(crate) fn ring_from(alloc: Global, bytes: &[u8]) -> Result<Ring, Stop>
-    ensures { Gives (spec.ring_or_fault (ring_of bytes.now)) result }
-{
-    match read_ring(alloc, bytes) {
-        Ok(ring) => Ok(ring),
-        Err(RingError::Memory) => Err(Stop::Memory),
-        Err(fault) => Err(Stop::BadRing(fault)),
-    }
-}
-
-fn events_from(alloc: Global, bytes: &[u8]) -> Result<List<Event>, Stop>
-    ensures { Gives (spec.events_or_line (events_of bytes.now)) result }
-{
-    match read_schedule(alloc, bytes) {
-        Ok(events) => Ok(events),
-        Err(ScheduleError::BadLine { line, .. }) => Err(Stop::BadLine(line)),
-        Err(ScheduleError::Memory) => Err(Stop::Memory),
-    }
-}
-
-fn any_suffix(events: &[Event]) -> bool
-    ensures { result ≡ list_any spec.has_suffix events.now }
-{
-    events.iter().any(|event| event.cut.is_some())
-}
-
-fn built_events(events: List<Event>) -> Result<List<Event>, Stop>
-    ensures { Gives (spec.built_events events) result }
-{
-    if any_suffix(events.as_slice()) {
-        Err(Stop::Unbuilt)
-    } else {
-        Ok(events)
-    }
-}
 
 /// Takes an event, or says that its line is bad.
 fn take_event(alloc: Global, ring: &Ring, replay: &mut Replay, event: &Event) -> Result<(), Stop>
@@ -92,21 +51,14 @@ fn report_after(alloc: Global, ring: &Ring, replay: &Replay) -> Result<List<u8>,
 }
 
 /// The report after all events, or the line of the first that is refused.
-fn replayed(alloc: Global, ring: &Ring, events: &[Event]) -> Result<List<u8>, Stop>
-    ensures { Gives (spec.replayed ring.now events.now) result }
+pub(crate) fn replayed(alloc: Global, ring: &Ring, events: &[Event]) -> Result<List<u8>, Stop>
+    ensures valid { IsRing ring.now }
+    ensures replays { GivesOne (Replays ring.now events.now) result }
 {
+    ring.law_built();
     let mut replay = new_replay(alloc, ring)?;
     for event in events {
         take_event(alloc, ring, &mut replay, event)?;
     }
     report_after(alloc, ring, &replay)
-}
-
-/// The schedule's part of the work: read whole, then run.
-pub(crate) fn schedule_part(alloc: Global, ring: &Ring, bytes: &[u8]) -> Result<List<u8>, Stop>
-    ensures { Gives (spec.schedule_part ring.now bytes.now) result }
-{
-    let events = events_from(alloc, bytes)?;
-    let events = built_events(events)?;
-    replayed(alloc, ring, events.as_slice())
 }

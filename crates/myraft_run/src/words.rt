@@ -1,6 +1,6 @@
 ghost use Rattle.std.specs.Prelude.{◌≡◌, map, string_bytes, Ok};
 ghost use Rattle.myraft_run.specs.Words as spec;
-ghost use Rattle.myraft_run.specs.Outcomes.{Gives};
+ghost use Rattle.myraft_run.specs.Inputs.{Gives};
 
 use crate::stops::{File, Stop};
 use ring_types::Text;

@@ -9,7 +9,7 @@ use Rattle.ring_types.specs.declared.values.Change.{Change}
 use Rattle.ring_types.specs.declared.values.RowRefusal.{RowRefusal}
 use Rattle.ring_types.specs.Gtids.{next_number}
 use Rattle.ring_types.specs.Rings.{IsRing, Layout, runs_engine, server_of}
-use Rattle.ring_types.specs.Rows.{check, is_valid}
+use Rattle.ring_types.specs.Rows.{check, is_valid, rows}
 use Rattle.ring_types.specs.Sizes.{group_limit, group_size}
 use Rattle.ring_model.specs.declared.effects.Cause.{Cause}
 use Rattle.ring_model.specs.declared.effects.Cause.TheVariants as cause
@@ -18,7 +18,7 @@ use Rattle.ring_model.specs.declared.nodes.Soft.{Soft}
 use Rattle.ring_model.specs.Actions.{is_held, pairs_in}
 use Rattle.ring_model.specs.Nodes.{is_leader, is_ready}
 use Rattle.ring_model.specs.Runs.{IsRun, Move, world}
-use Rattle.ring_model.specs.Safety.{ChosenIsValid, EveryRunIsSafe}
+use Rattle.ring_model.specs.Safety.{ChosenIsValid, EveryRunAppliesChosen, EveryRunIsSafe}
 use Rattle.ring_model.specs.Writes.{change_refusal, committed_rows, is_exhausted, is_handing, length_limit, lock_of, lock_refusal, size_refusal, write_entry, write_refusal, write_txn}
 use Rattle.ring_model.proofs.Runs.{safe_logs}
 use Rattle.ring_lawful.specs.Lawful.{EveryLogIsValid, EveryRunChoosesValid}
@@ -121,4 +121,13 @@ every_run_is_safe ring run valid is =
       logs_match = x.logs_match;
       chosen_grows = x.chosen_grows;
       leaders_have = x.leaders_have;
+    }
+
+-- each engine's rows are those of a prefix of the chosen sequence
+pub every_run_applies_chosen : EveryRunAppliesChosen
+every_run_applies_chosen ring run valid is =
+    let x = every_run_is_safe ring run valid is in
+    record {
+      rows_are = λ id. ap (rows ring.schema) (x.applied_prefix.applied id).same;
+      accepted = λ id. valid_take ring.schema ((world ring run).nodes id).durable.applied (world ring run).chosen x.chosen_is_valid.accepted;
     }

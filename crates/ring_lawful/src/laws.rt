@@ -1,4 +1,4 @@
-ghost use Rattle.ring_model.specs.Safety.{EveryRunIsSafe};
+ghost use Rattle.ring_model.specs.Safety.{EveryRunAppliesChosen, EveryRunIsSafe};
 ghost use Rattle.ring_lawful.specs.EachStep.{EveryFirstNodeIsLawful, EveryMessageIsNearlyWellFormed, EveryRecoveryIsLawful, EveryStepIsPossible, EveryStepKeepsLawful, EveryStepSendsWellFormed};
 ghost use Rattle.ring_lawful.specs.Lawful.{EveryLogIsValid, EveryNodeIsSound, EveryPlanIsPossible, EveryRunChoosesValid, EveryRunningNodeIsLawful};
 
@@ -10,6 +10,12 @@ ghost use Rattle.ring_lawful.specs.Lawful.{EveryLogIsValid, EveryNodeIsSound, Ev
 /// committed.
 pub fn law_safe()
     ensures { EveryRunIsSafe }
+{}
+
+/// In the world after any run of any ring the rows that a node's engine has applied are those of the
+/// first so many entries of the chosen sequence, and none of these was refused.
+pub fn law_rows()
+    ensures { EveryRunAppliesChosen }
 {}
 
 /// In the world after any run of any ring each transaction of the chosen sequence is accepted by the

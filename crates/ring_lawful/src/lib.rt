@@ -9,6 +9,6 @@ mod laws;
 
 pub use laws::{
     law_chosen_is_valid, law_first_lawful, law_lawful, law_logs_are_valid, law_messages,
-    law_possible, law_recovery, law_safe, law_sound, law_step_lawful, law_step_possible,
+    law_possible, law_recovery, law_rows, law_safe, law_sound, law_step_lawful, law_step_possible,
     law_step_sends,
 };

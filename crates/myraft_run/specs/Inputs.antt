@@ -1,11 +1,11 @@
--- What a replay comes to: the text of its report, or why it stops before, as a function of the words and of what the shelf answered.
-use Rattle.std.specs.Prelude.{◌≡◌, ℕ, Bool, List, [], ◌∷◌, if◌then◌else◌, is_some, Option, Some, None, Result, Ok, Err}
-use Rattle.std.specs.List.{list_any}
+-- What is to be run by the words and by what the shelf answered: a ring and the events of its schedule, or why the program stops before.
+use Rattle.std.specs.Prelude.{◌≡◌, ℕ, Bool, true, false, List, [], ◌∷◌, ◌++◌, map, if◌then◌else◌, is_some, Option, Some, None, Result, Ok, Err}
+use Rattle.std.specs.List.{Contains, list_any}
 use Rattle.edge_traits.specs.declared.shelves.FetchError.{FetchError}
 use Rattle.edge_traits.specs.declared.shelves.FetchError.TheVariants as fetch
-use Rattle.ring_types.specs.Rings.{Layout}
-use Rattle.ring_model.specs.Worlds.{WorldState, Whole, world_step, first_world, shown}
-use Rattle.ring_model.specs.Runs.{world, whole_moves, is_known}
+use Rattle.ring_types.specs.Rings.{IsRing, Layout}
+use Rattle.ring_model.specs.Worlds.{Whole, shown}
+use Rattle.ring_model.specs.Runs.{IsRun, Move, is_known, world}
 use Rattle.ring_model.specs.declared.worlds.Event.{Event}
 use Rattle.ring_file.specs.declared.faults.RingError.{RingError}
 use Rattle.ring_file.specs.Documents.{ring_of}
@@ -13,6 +13,7 @@ use Rattle.schedule_text.specs.declared.faults.ScheduleError.{ScheduleError}
 use Rattle.schedule_text.specs.declared.faults.ScheduleError.TheVariants as bad
 use Rattle.schedule_text.specs.Schedules.{events_of}
 use Rattle.report_text.specs.Report.{report}
+use Rattle.myraft_run.specs.declared.reading.Inputs.{Inputs}
 use Rattle.myraft_run.specs.declared.stops.Stop.{Stop}
 use Rattle.myraft_run.specs.declared.stops.Stop.TheVariants as stop
 use Rattle.myraft_run.specs.declared.stops.File.{File}
@@ -56,35 +57,31 @@ has_suffix e = is_some e.cut
 abbrev pub built_events : List Event → Result (List Event) Stop
 built_events events = if list_any has_suffix events then Err stop.Unbuilt else Ok events
 
--- the line of the first event that names a node or a message that is not there, on the worlds that the events before it make
-abbrev pub first_unknown : Layout → WorldState → List Event → Option ℕ
-first_unknown ring w [] = None
-first_unknown ring w (e ∷ events) = if is_known ring w e.what then first_unknown ring (world_step ring w e Whole) events else Some e.line
+-- the schedule's part, read whole: what is to be run
+abbrev pub inputs_on : Layout → List Event → Result Inputs Stop
+inputs_on ring events = Ok (record { ring = ring; events = events })
 
--- the report of the model's world after all events
-unfoldable pub report_of : Layout → List Event → List ℕ
-report_of ring events = report ring (shown ring (world ring (whole_moves events)))
+abbrev pub inputs_with : Layout → List ℕ → Result Inputs Stop
+inputs_with ring bytes = events_or_line (events_of bytes) >>= built_events >>= inputs_on ring
 
-abbrev pub replayed : Layout → List Event → Result (List ℕ) Stop
-replayed ring events = elim (first_unknown ring first_world events) [ None ↦ Ok (report_of ring events) | Some line ↦ Err (stop.BadLine line) ]
-
--- the schedule's part: read whole, then run
-abbrev pub schedule_part : Layout → List ℕ → Result (List ℕ) Stop
-schedule_part ring bytes = events_or_line (events_of bytes) >>= built_events >>= replayed ring
-
--- from the names on: the ring fetched and read, the schedule fetched and read, the run
-abbrev pub after_names : Result (List ℕ) FetchError → Result (List ℕ) FetchError → Result (List ℕ) Stop
-after_names ring_answer schedule_answer = do
+-- from the names on: the ring fetched and read, then the schedule
+abbrev pub inputs_from : Result (List ℕ) FetchError → Result (List ℕ) FetchError → Result Inputs Stop
+inputs_from ring_answer schedule_answer = do
   ring_bytes ← got file.Ring ring_answer
   ring ← ring_or_fault (ring_of ring_bytes)
-  got file.Schedule schedule_answer >>= schedule_part ring
+  got file.Schedule schedule_answer >>= inputs_with ring
 
--- the order of work: the words, the ring, the schedule, the run
-abbrev pub text_of : List (List ℕ) → Result (List ℕ) FetchError → Result (List ℕ) FetchError → Result (List ℕ) Stop
-text_of words ring_answer schedule_answer = names_of words >>= λ names. after_names ring_answer schedule_answer
+-- the order of work before the run: the words, the ring, the schedule
+abbrev pub inputs_of : List (List ℕ) → Result (List ℕ) FetchError → Result (List ℕ) FetchError → Result Inputs Stop
+inputs_of words ring_answer schedule_answer = names_of words >>= λ names. inputs_from ring_answer schedule_answer
+
+-- ---- what the parts give
+-- what was returned is such as is wanted, unless memory ran out
+abbrev pub GivesOne : {A : Type 0} → (Result A Stop → Type 0) → Result A Stop → Type 0
+GivesOne Wanted (Ok x) = Wanted (Ok x)
+GivesOne Wanted (Err stop.Memory) = Unit {0}
+GivesOne Wanted (Err e) = Wanted (Err e)
 
 -- what was returned is what is wanted, unless memory ran out
 abbrev pub Gives : {A : Type 0} → Result A Stop → Result A Stop → Type 0
-Gives wanted (Ok x) = wanted ≡ Ok x
-Gives wanted (Err stop.Memory) = Unit {0}
-Gives wanted (Err e) = wanted ≡ Err e
+Gives wanted result = GivesOne (λ r. wanted ≡ r) result

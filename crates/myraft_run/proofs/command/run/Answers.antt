@@ -1,0 +1,1 @@
+use Rattle.myraft_run.proofs.command.run.Goals as goal
