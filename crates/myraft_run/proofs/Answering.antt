@@ -1,5 +1,5 @@
 -- What the shelf answered, and what is to be run by it.
-use Rattle.std.proofs.Common.{◌≡◌, ℕ, ◌≤◌, ◌<◌, ◌⊎◌, inl, inr, Bool, List, length, IfSome, IfOk, Option, Some, None, Result, Ok, Err, refl, sym, ap, subst, true, false, ◌∙◌, arith}
+use Rattle.std.proofs.Common.{◌≡◌, ℕ, ◌≤◌, ◌⊎◌, inl, inr, List, length, IfSome, IfOk, Option, Some, None, Result, Ok, Err, refl, sym, ap, subst, true, false, ◌∙◌, arith}
 use Rattle.std.specs.Prelude.{nat_lt}
 use Rattle.std.proofs.lemmas.Bool.Decides.{nat_tests}
 use Rattle.edge_traits.specs.Counts.{Rose}

@@ -1,5 +1,5 @@
 -- Where the shelf tells its files and nothing fails, its answers are what the files are; so the status is the one that the order of work gives on them, or memory ran out.
-use Rattle.std.proofs.Common.{◌≡◌, ℕ, ◌⊎◌, inl, inr, true, false, List, IfSome, Option, Some, None, Result, Ok, Err, refl, sym, ap, ap₂, subst, ◌∙◌}
+use Rattle.std.proofs.Common.{◌≡◌, ℕ, ◌⊎◌, inl, inr, false, List, IfSome, Option, Some, None, Result, Ok, Err, refl, sym, ap, ap₂, subst, ◌∙◌}
 use Rattle.std.specs.List.{list_any}
 use Rattle.edge_traits.specs.declared.shelves.FetchError.{FetchError}
 use Rattle.edge_traits.specs.declared.shelves.FetchError.TheVariants as fetch
@@ -15,11 +15,10 @@ use Rattle.myraft_run.specs.declared.stops.Stop.{Stop}
 use Rattle.myraft_run.specs.declared.stops.Stop.TheVariants as stop
 use Rattle.myraft_run.specs.declared.stops.File.TheVariants as file
 use Rattle.myraft_run.specs.Words.{names_of}
-use Rattle.myraft_run.specs.Stops.{status_of}
-use Rattle.myraft_run.specs.Inputs.{◌>>=◌, GivesOne, built_events, events_or_line, got, has_suffix, inputs_from, inputs_of, inputs_on, inputs_with, ring_limit, ring_or_fault, schedule_limit}
+use Rattle.myraft_run.specs.Inputs.{◌>>=◌, built_events, events_or_line, got, has_suffix, inputs_from, inputs_of, inputs_on, inputs_with, ring_limit, ring_or_fault, schedule_limit}
 use Rattle.myraft_run.specs.Replays.{Ends, Replays}
 use Rattle.myraft_run.specs.Spans.{Files, ShelfIsSteady, ShelfSpan, SinkIsSteady, SinkSpan}
-use Rattle.myraft_run.specs.Command.{ComesTo, IsStatusOf, Held, IsExact, IsReplayable, outcome_status, told_answer, told_inputs}
+use Rattle.myraft_run.specs.Command.{ComesTo, IsStatusOf, IsExact, IsReplayable, outcome_status, told_answer, told_inputs}
 use Rattle.myraft_run.specs.Parts.{Works}
 use Rattle.myraft_run.proofs.Answering.{answer-is, held-answer}
 use Rattle.myraft_run.proofs.Runs.{never-refused}

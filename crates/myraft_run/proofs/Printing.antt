@@ -1,5 +1,5 @@
 -- A text that the order of work comes to is the report of the ring's run, on whose way every world holds.
-use Rattle.std.proofs.Common.{◌≡◌, ℕ, false, List, ◌++◌, IfSome, Option, Some, Result, Ok, Err, refl, subst, sym, ◌∙◌}
+use Rattle.std.proofs.Common.{◌≡◌, ℕ, false, List, ◌++◌, IfSome, Some, Result, Ok, Err, refl, subst}
 use Rattle.std.specs.List.{list_any}
 use Rattle.edge_traits.specs.declared.shelves.FetchError.{FetchError}
 use Rattle.ring_types.specs.Rings.{IsRing, Layout}

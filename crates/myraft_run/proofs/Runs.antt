@@ -1,5 +1,5 @@
 -- A prefix of a run is a run; and a run of whole moves is what its events make it, so of a run no event is refused.
-use Rattle.std.proofs.Common.{◌≡◌, ℕ, true, false, List, [], ◌∷◌, ◌++◌, ◌∙◌, map, arith, refl, ap, subst, suc, sym, zero}
+use Rattle.std.proofs.Common.{◌≡◌, ℕ, true, false, List, [], ◌∷◌, ◌++◌, ◌∙◌, map, arith, refl, ap, subst, sym, zero}
 use Rattle.std.specs.List.{Contains}
 use Rattle.ring_types.specs.Rings.{Layout}
 use Rattle.ring_model.specs.Worlds.{Whole, WorldState, first_world, world_step}

@@ -1,5 +1,5 @@
 -- The events that were taken so far are a run; the next is taken after it, or refused there.
-use Rattle.std.proofs.Common.{◌≡◌, ℕ, ◌≤◌, ◌<◌, true, false, List, [], ◌∷◌, ◌++◌, length, drop, map, IfOk, IfErr, Result, Ok, Err, refl, sym, ap, subst, suc, zero, append_assoc, ◌∙◌, arith}
+use Rattle.std.proofs.Common.{◌≡◌, ℕ, ◌≤◌, true, false, List, [], ◌∷◌, ◌++◌, length, drop, map, IfOk, IfErr, Result, Ok, Err, refl, sym, ap, subst, suc, append_assoc, ◌∙◌, arith}
 use Rattle.std.proofs.lemmas.Grind.{common_steps}
 use Rattle.std.proofs.lemmas.List.{append-nil}
 use Rattle.std.specs.List.{Contains}

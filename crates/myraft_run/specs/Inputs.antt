@@ -1,18 +1,16 @@
 -- What is to be run by the words and by what the shelf answered: a ring and the events of its schedule, or why the program stops before.
-use Rattle.std.specs.Prelude.{◌≡◌, ℕ, Bool, true, false, List, [], ◌∷◌, ◌++◌, map, if◌then◌else◌, is_some, Option, Some, None, Result, Ok, Err}
-use Rattle.std.specs.List.{Contains, list_any}
+use Rattle.std.specs.Prelude.{◌≡◌, ℕ, Bool, List, if◌then◌else◌, is_some, Result, Ok, Err}
+use Rattle.std.specs.List.{list_any}
 use Rattle.edge_traits.specs.declared.shelves.FetchError.{FetchError}
 use Rattle.edge_traits.specs.declared.shelves.FetchError.TheVariants as fetch
-use Rattle.ring_types.specs.Rings.{IsRing, Layout}
-use Rattle.ring_model.specs.Worlds.{Whole, shown}
-use Rattle.ring_model.specs.Runs.{IsRun, Move, is_known, world}
+use Rattle.ring_types.specs.declared.limits.TheConstants.{RING_FILE_BYTES, SCHEDULE_BYTES}
+use Rattle.ring_types.specs.Rings.{Layout}
 use Rattle.ring_model.specs.declared.worlds.Event.{Event}
 use Rattle.ring_file.specs.declared.faults.RingError.{RingError}
 use Rattle.ring_file.specs.Documents.{ring_of}
 use Rattle.schedule_text.specs.declared.faults.ScheduleError.{ScheduleError}
 use Rattle.schedule_text.specs.declared.faults.ScheduleError.TheVariants as bad
 use Rattle.schedule_text.specs.Schedules.{events_of}
-use Rattle.report_text.specs.Report.{report}
 use Rattle.myraft_run.specs.declared.reading.Inputs.{Inputs}
 use Rattle.myraft_run.specs.declared.stops.Stop.{Stop}
 use Rattle.myraft_run.specs.declared.stops.Stop.TheVariants as stop
@@ -22,10 +20,10 @@ use Rattle.myraft_run.specs.Words.{names_of}
 
 -- a file has at most so many bytes
 abbrev pub ring_limit : ℕ
-ring_limit = 1048576
+ring_limit = RING_FILE_BYTES
 
 abbrev pub schedule_limit : ℕ
-schedule_limit = 16777216
+schedule_limit = SCHEDULE_BYTES
 
 -- goes on where nothing stopped before
 infixl 10 ◌>>=◌

@@ -13,13 +13,9 @@ use crate::words::{Names, names_of};
 use edge_traits::Shelf;
 use ring_file::{RingError, read_ring};
 use ring_model::Event;
-use ring_types::{List, Ring, Text};
+use ring_types::{List, RING_FILE_BYTES, Ring, SCHEDULE_BYTES, Text};
 use schedule_text::{ScheduleError, read_schedule};
 use std::alloc::Global;
-
-const RING_LIMIT: u64 = 1048576;
-
-const SCHEDULE_LIMIT: u64 = 16777216;
 
 /// What is to be run: a ring, and the events of a schedule.
 #[derive(Drop)]
@@ -89,14 +85,14 @@ fn with_ring<H: Shelf>(
     ensures finds { FindsFromRing ring name.now (shelf_span H.files H.faults shelf.old shelf.new) result }
     ensures later { H.faults shelf.old ≤ H.faults shelf.new }
 {
-    let bytes = fetch(shelf, File::Schedule, name, SCHEDULE_LIMIT)?;
+    let bytes = fetch(shelf, File::Schedule, name, SCHEDULE_BYTES)?;
     with_schedule(alloc, ring, bytes.as_slice())
 }
 
 fn with_names<H: Shelf>(alloc: Global, names: &Names, shelf: &mut H) -> Result<Inputs, Stop>
     ensures { FindsFromNames names.now (shelf_span H.files H.faults shelf.old shelf.new) result }
 {
-    let bytes = fetch(shelf, File::Ring, &names.ring, RING_LIMIT)?;
+    let bytes = fetch(shelf, File::Ring, &names.ring, RING_FILE_BYTES)?;
     let ring = ring_from(alloc, bytes.as_slice())?;
     with_ring(alloc, ring, &names.schedule, shelf)
 }
