@@ -1,6 +1,5 @@
 ghost use Rattle.std.specs.Prelude.{◌≡◌, ◌++◌, OnOk};
 ghost use Rattle.std.specs.List.{flat_map};
-ghost use Rattle.ring_types.specs.Rings.{runs_engine};
 ghost use Rattle.report_text.specs.Report as spec;
 
 use crate::appending::{put, put_field};
@@ -8,7 +7,7 @@ use crate::table_text::put_applied_tables;
 use crate::words::{put_entry, put_set};
 use ring_model::{Durable, Role, Shown, Soft};
 use ring_plain::gtids;
-use ring_types::{Entry, Kind, Memory, NodeId, Ring, ServerSet, Vote};
+use ring_types::{Entry, Memory, Ring, ServerSet, Vote};
 use std::alloc::Global;
 
 fn role_word(role: Role) -> &'static [u8]
@@ -127,15 +126,6 @@ fn put_gtids_line(alloc: Global, out: &mut Vec<u8>, log: &[Entry]) -> Result<(),
     put(out, b"\n")
 }
 
-fn runs_engine(ring: &Ring, id: NodeId) -> bool
-    ensures { result ≡ runs_engine ring.now id }
-{
-    ring.members()
-        .as_slice()
-        .iter()
-        .any(|member| member.id == id && member.kind != Kind::Tailer)
-}
-
 fn put_engine_text(
     alloc: Global,
     out: &mut Vec<u8>,
@@ -144,7 +134,7 @@ fn put_engine_text(
 ) -> Result<(), Memory>
     ensures { OnOk result (out.new.items ≡ out.old.items ++ spec.engine_text ring.now node.now) }
 {
-    if runs_engine(ring, node.node) {
+    if ring.runs_engine(node.node) {
         put_applied_tables(alloc, out, ring.schema(), &node.durable)
     } else {
         Ok(())

@@ -21,7 +21,7 @@ fn put_locked(out: &mut Vec<u8>, table: &Text, key: &Value, holder: Opid) -> Res
     ensures { OnOk result (out.new.items ≡ out.old.items ++ spec.locked_words table.now key.now holder) }
 {
     put(out, b"locked ")?;
-    put(out, table.as_str().as_bytes())?;
+    put(out, table.as_bytes())?;
     put(out, b" ")?;
     put_value(out, key)?;
     put(out, b" ")?;

@@ -1,4 +1,4 @@
-ghost use Rattle.std.specs.Prelude.{◌≡◌, ◌++◌, OnOk, take};
+ghost use Rattle.std.specs.Prelude.{◌≡◌, ◌++◌, OnOk};
 ghost use Rattle.std.specs.List.{flat_map};
 ghost use Rattle.report_text.specs.Report as spec;
 
@@ -6,7 +6,7 @@ use crate::appending::{put, put_field};
 use crate::words::put_value;
 use ring_model::Durable;
 use ring_plain::rows;
-use ring_types::{Entry, List, Memory, Schema, Table, Value};
+use ring_types::{List, Memory, Schema, Table, Value};
 use std::alloc::Global;
 
 fn put_values(out: &mut Vec<u8>, row: &[Value]) -> Result<(), Memory>
@@ -42,7 +42,7 @@ fn put_table(out: &mut Vec<u8>, table: &Table, rows: &[List<Value>]) -> Result<(
     ensures { OnOk result (out.new.items ≡ out.old.items ++ spec.table_text table.now rows.now) }
 {
     put(out, b"table ")?;
-    put(out, table.name.as_str().as_bytes())?;
+    put(out, table.name.as_bytes())?;
     put_field(out, b" ", rows.len() as u64)?;
     put(out, b"\n")?;
     put_row_lines(out, rows)
@@ -63,15 +63,6 @@ fn put_tables(out: &mut Vec<u8>, tables: &[Table], rows: &[List<List<Value>>]) -
     }
 }
 
-fn first_entries(log: &[Entry], count: u64) -> &[Entry]
-    ensures { result.now ≡ take count log.now }
-{
-    match log.get(..count as usize) {
-        Some(front) => front,
-        None => log,
-    }
-}
-
 /// Puts the tables, as a node's applied entries make them, at the end.
 #[tactic(auto, unfolding(crate::specs::Report::applied_tables))]
 pub(crate) fn put_applied_tables(
@@ -82,7 +73,7 @@ pub(crate) fn put_applied_tables(
 ) -> Result<(), Memory>
     ensures { OnOk result (out.new.items ≡ out.old.items ++ spec.applied_tables schema.now durable.now) }
 {
-    let applied = first_entries(durable.log.as_slice(), durable.applied);
+    let applied = durable.log.prefix(durable.applied);
     let tables = rows(alloc, schema, applied)?;
     put_tables(out, schema.tables.as_slice(), tables.as_slice())
 }

@@ -82,7 +82,7 @@ pub(crate) fn put_value(out: &mut Vec<u8>, value: &Value) -> Result<(), Memory>
         Value::Int(number) => put_signed(out, *number),
         Value::Text(text) => {
             put(out, b"'")?;
-            put_escaped(out, text.as_str().as_bytes())?;
+            put_escaped(out, text.as_bytes())?;
             put(out, b"'")
         }
     }

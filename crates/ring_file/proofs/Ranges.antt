@@ -1,5 +1,5 @@
 -- What a ring file declares is within the ranges that the building of a ring asks for.
-use Rattle.std.proofs.Common.{◌≡◌, ℕ, ◌+◌, ℤ, pos, negsuc, Bool, true, false, ◌&&◌, nat_le, nat_lt, ◌^◌, List, [], ◌∷◌, Option, None, Some, option_map, if◌then◌else◌, Result, Ok, Err, refl, subst, arith, codes}
+use Rattle.std.proofs.Common.{◌≡◌, ℕ, ◌+◌, ◌-◌, ℤ, pos, negsuc, Bool, true, false, ◌&&◌, nat_le, nat_lt, ◌^◌, List, [], ◌∷◌, Option, None, Some, option_map, if◌then◌else◌, Result, Ok, Err, refl, subst, arith, codes}
 use Rattle.std.specs.Option.{option_and_then}
 use Rattle.std.specs.List.{list_all}
 use Rattle.std.specs.Str.Parse.{digits_value}
@@ -7,6 +7,7 @@ use Rattle.std.proofs.lemmas.Bool.{and_parts}
 use Rattle.std.proofs.lemmas.Bool.Decides.{nat_tests}
 use Rattle.toml.specs.Data.{Data, Items, no_items, item, Members, get_member, as_table, as_str, as_integer, as_array}
 use Rattle.ring_types.specs.Names.{is_name, is_address}
+use Rattle.ring_types.specs.declared.limits.TheConstants.{FIRST_CLIENT, LAST_NODE}
 use Rattle.ring_types.specs.Rings.{address_fits, part_fits, client_fits, shape_fits, column_fits, table_fits, is_in_range}
 use Rattle.ring_types.specs.declared.members.MemberPart.{MemberPart}
 use Rattle.ring_types.specs.declared.members.Address.{Address}
@@ -145,18 +146,18 @@ unfolding node_of
 node-fits number node p e =
     let table = within.Node number in
     let (keys, e0, e1) = both_ok (keys_fit table node) _ p e in
-    let (id, e2, e3) = both_ok (value_at (number_in 1 65535) table (codes "id") node) _ p e1 in
+    let (id, e2, e3) = both_ok (value_at (number_in 1 LAST_NODE) table (codes "id") node) _ p e1 in
     let (region, e4, e5) = both_ok (value_at name_in table (codes "region") node) _ p e3 in
     let (kind, e6, e7) = both_ok (value_at kind_in table (codes "kind") node) _ p e5 in
     let (server, e8, e9) = both_ok (value_at server_in table (codes "uuid") node) _ p e7 in
     let (address, e10, e11) = both_ok (option_at address_in table (codes "address") node) _ p e9 in
-    let id_fits = at_key-fits (is_between 1 65535) (number_in 1 65535) (λ v. numbers-fit 1 65535 (as_integer v)) table (codes "id") node id e2 in
+    let id_fits = at_key-fits (is_between 1 LAST_NODE) (number_in 1 LAST_NODE) (λ v. numbers-fit 1 LAST_NODE (as_integer v)) table (codes "id") node id e2 in
     let region_fits = at_key-fits is_name name_in names-fit table (codes "region") node region e4 in
     let at_fits = option-fits table (codes "address") (get_member (codes "address") node) address e10 in
     let made : MemberPart = record { id = id; region = region; kind = kind; server = server; address = address } in
     last_ok (λ q. part_fits q ≡ true) made p e11 (rw (id_fits, region_fits, at_fits))
 
-client_number : (n : ℕ) → is_between 65536 4294967295 n ≡ true → (nat_le 65536 n && nat_lt n (2 ^ 32)) ≡ true
+client_number : (n : ℕ) → is_between FIRST_CLIENT (2 ^ 32 - 1) n ≡ true → (nat_le FIRST_CLIENT n && nat_lt n (2 ^ 32)) ≡ true
 client_number n fits = grind (arith, nat_tests)
 
 client-fits : (number : ℕ) (client : Members) (a : Address) → client_of number client ≡ Ok a → client_fits a ≡ true
@@ -164,9 +165,9 @@ unfolding client_of
 client-fits number client a e =
     let table = within.Client number in
     let (keys, e0, e1) = both_ok (keys_fit table client) _ a e in
-    let (id, e2, e3) = both_ok (value_at (number_in 65536 4294967295) table (codes "id") client) _ a e1 in
+    let (id, e2, e3) = both_ok (value_at (number_in FIRST_CLIENT (2 ^ 32 - 1)) table (codes "id") client) _ a e1 in
     let (at, e4, e5) = both_ok (value_at address_in table (codes "address") client) _ a e3 in
-    let id_fits = at_key-fits (is_between 65536 4294967295) (number_in 65536 4294967295) (λ v. numbers-fit 65536 4294967295 (as_integer v)) table (codes "id") client id e2 in
+    let id_fits = at_key-fits (is_between FIRST_CLIENT (2 ^ 32 - 1)) (number_in FIRST_CLIENT (2 ^ 32 - 1)) (λ v. numbers-fit FIRST_CLIENT (2 ^ 32 - 1) (as_integer v)) table (codes "id") client id e2 in
     let at_fits = at_key-fits is_address address_in addresses-fit table (codes "address") client at e4 in
     let made : Address = record { id = id; at = at } in
     last_ok (λ q. client_fits q ≡ true) made a e5 (rw (client_number id id_fits, at_fits))

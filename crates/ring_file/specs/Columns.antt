@@ -4,6 +4,7 @@ use Rattle.std.specs.List.{list_all, before_first, after_first}
 use Rattle.std.specs.Str.Parse.{digits_value}
 use Rattle.toml.specs.Data.{Data, as_str}
 use Rattle.ring_types.specs.Names.{is_name}
+use Rattle.ring_types.specs.declared.limits.TheConstants.{TEXT_COLUMN_BYTES}
 use Rattle.ring_types.specs.declared.schemas.Shape.{Shape}
 use Rattle.ring_types.specs.declared.schemas.Shape.TheVariants as shape
 use Rattle.ring_types.specs.declared.schemas.Column.{Column}
@@ -26,9 +27,9 @@ is_digit byte = nat_le 48 byte && nat_le byte 57
 abbrev pub is_numeral : List ℕ → Bool
 is_numeral text = nat_le 1 (length text) && not (slice_index text 0 == 48) && list_all is_digit text
 
--- how many bytes a text column takes: from 1 to 16000
+-- what may be the limit of a text column, in bytes
 abbrev pub is_limit : ℕ → Bool
-is_limit n = nat_le 1 n && nat_le n 16000
+is_limit n = nat_le 1 n && nat_le n TEXT_COLUMN_BYTES
 
 abbrev pub limit_of : List ℕ → Option ℕ
 limit_of text = if is_numeral text && is_limit (digits_value 10 text) then Some (digits_value 10 text) else None

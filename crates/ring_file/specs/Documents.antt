@@ -1,8 +1,9 @@
 -- The ring that a ring file declares, or the first fault of the document.
-use Rattle.std.specs.Prelude.{ℕ, ◌+◌, List, [], ◌∷◌, codes, if◌then◌else◌, Option, Some, None, option_map, Result, Ok, Err}
+use Rattle.std.specs.Prelude.{ℕ, ◌+◌, ◌-◌, ◌^◌, List, [], ◌∷◌, codes, if◌then◌else◌, Option, Some, None, option_map, Result, Ok, Err}
 use Rattle.std.specs.Str.{is_utf8}
 use Rattle.toml.specs.Data.{Data, Items, no_items, item, Members, get_member, as_table}
 use Rattle.toml.specs.Parse.{parse_document}
+use Rattle.ring_types.specs.declared.limits.TheConstants.{FIRST_CLIENT, LAST_NODE}
 use Rattle.ring_types.specs.declared.members.MemberPart.{MemberPart}
 use Rattle.ring_types.specs.declared.members.Address.{Address}
 use Rattle.ring_types.specs.declared.members.RingParts.{RingParts}
@@ -59,7 +60,7 @@ each_table reads number (item value rest) = before_rest (option_map (reads numbe
 unfoldable pub node_of : ℕ → Members → Result MemberPart RingError
 node_of number node = do
   keys ← keys_fit (within.Node number) node
-  id ← value_at (number_in 1 65535) (within.Node number) (codes "id") node
+  id ← value_at (number_in 1 LAST_NODE) (within.Node number) (codes "id") node
   region ← value_at name_in (within.Node number) (codes "region") node
   kind ← value_at kind_in (within.Node number) (codes "kind") node
   server ← value_at server_in (within.Node number) (codes "uuid") node
@@ -69,7 +70,7 @@ node_of number node = do
 unfoldable pub client_of : ℕ → Members → Result Address RingError
 client_of number client = do
   keys ← keys_fit (within.Client number) client
-  id ← value_at (number_in 65536 4294967295) (within.Client number) (codes "id") client
+  id ← value_at (number_in FIRST_CLIENT (2 ^ 32 - 1)) (within.Client number) (codes "id") client
   at ← value_at address_in (within.Client number) (codes "address") client
   Ok (record { id = id; at = at })
 

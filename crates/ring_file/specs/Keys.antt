@@ -25,7 +25,8 @@ further_keys (within.Table number) = []
 abbrev pub is_key : Within → List ℕ → Bool
 is_key table key = list_any (bytes_eq key) (needed_keys table ++ further_keys table)
 
--- the unknown key that is least by bytes: the first one, since the keys of a document's tables ascend
+-- The first unknown key is also the least by bytes: the members of a parsed table ascend, which the toml crate
+-- states as `members_are_sorted` in its specs/Data.
 abbrev pub first_unknown : Within → Members → Option (List ℕ)
 first_unknown table no_members = None
 first_unknown table (member key value rest) = if is_key table key then first_unknown table rest else Some key

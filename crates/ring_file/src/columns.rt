@@ -4,8 +4,7 @@ ghost use Rattle.toml.specs.View.{view, items_view};
 ghost use Rattle.ring_file.specs.Values.{each, array_in};
 ghost use Rattle.ring_file.specs.Columns.{word, after_word, is_digit, is_numeral, limit_of, shape_of, column_of, column_in};
 
-use crate::values::is_name;
-use ring_types::{Column, List, Memory, Shape, Text};
+use ring_types::{Column, List, Memory, Shape, TEXT_COLUMN_BYTES, Text, is_name};
 use std::alloc::Global;
 use toml::Value;
 
@@ -48,7 +47,7 @@ fn limit_of(text: &str) -> Option<u16>
     }
     match text.parse::<u16>() {
         Ok(limit) => {
-            if 1 <= limit && limit <= 16000 {
+            if 1 <= limit && limit <= TEXT_COLUMN_BYTES {
                 Some(limit)
             } else {
                 None
@@ -81,12 +80,12 @@ fn column_of(alloc: Global, text: &str) -> Result<Option<Column>, Memory>
     ensures { IfOk result (λ it. it ≡ column_of text.now) }
 {
     let (name, rest) = at_space(text);
-    if !is_name(name) {
+    if !is_name(name.as_bytes()) {
         return Ok(None);
     }
     match shape_of(rest) {
         Some(shape) => Ok(Some(Column {
-            name: Text::from_string(String::from_str(alloc, name)?),
+            name: Text::copy_of(alloc, name)?,
             shape,
         })),
         None => Ok(None),

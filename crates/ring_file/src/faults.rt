@@ -2,8 +2,8 @@ ghost use Rattle.std.specs.Prelude.{◌≡◌, Ok};
 ghost use Rattle.ring_file.specs.Faults.{Gives, place, in_range};
 ghost use Rattle.ring_file.specs.declared.faults.RingError.TheVariants.{Memory as OutOfMemory};
 
-use ring_types::{BuildError, Text};
-use std::alloc::{AllocError, Global};
+use ring_types::{BuildError, Duplicate, Memory, Text};
+use std::alloc::Global;
 
 /// Why a ring file is refused. A place is a key of the top table, as `home`, or of a table of an
 /// array, as `node[2].kind`, where the tables of an array are counted from 1.
@@ -23,10 +23,29 @@ pub enum RingError {
     Memory,
 }
 
-impl From<AllocError> for RingError {
+impl Duplicate for RingError {
+    fn copy(&self, alloc: Global) -> Result<RingError, Memory> {
+        match self {
+            RingError::NotToml => Ok(RingError::NotToml),
+            RingError::Missing { place } => Ok(RingError::Missing {
+                place: place.copy(alloc)?,
+            }),
+            RingError::Unknown { place } => Ok(RingError::Unknown {
+                place: place.copy(alloc)?,
+            }),
+            RingError::Range { place } => Ok(RingError::Range {
+                place: place.copy(alloc)?,
+            }),
+            RingError::Build(cause) => Ok(RingError::Build(*cause)),
+            RingError::Memory => Ok(RingError::Memory),
+        }
+    }
+}
+
+impl From<Memory> for RingError {
     ghost from_gives = { λ _ e. e ≡ OutOfMemory };
 
-    fn from(_fault: AllocError) -> RingError {
+    fn from(_fault: Memory) -> RingError {
         RingError::Memory
     }
 }

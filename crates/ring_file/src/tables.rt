@@ -9,7 +9,7 @@ use crate::columns::columns_in;
 use crate::faults::{RingError, Within, in_range, place};
 use crate::keys::{check_keys, member};
 use crate::values::{address_in, kind_in, name_in, names_in, number_in, server_in, tables_in};
-use ring_types::{Address, Column, Kind, List, MemberPart, Table, Text};
+use ring_types::{Address, Column, FIRST_CLIENT, Kind, LAST_NODE, List, MemberPart, Table, Text};
 use std::alloc::Global;
 use toml::Value;
 
@@ -149,7 +149,7 @@ fn read_node(alloc: Global, number: usize, node: &toml::Table) -> Result<MemberP
 {
     let within = Within::Node(number);
     check_keys(alloc, within, node)?;
-    let id = number_at(alloc, 1, 65535, within, "id", node)?;
+    let id = number_at(alloc, 1, LAST_NODE, within, "id", node)?;
     let region = name_at(alloc, within, "region", node)?;
     let kind = kind_at(alloc, within, "kind", node)?;
     let server = server_at(alloc, within, "uuid", node)?;
@@ -169,7 +169,7 @@ fn read_client(alloc: Global, number: usize, client: &toml::Table) -> Result<Add
 {
     let within = Within::Client(number);
     check_keys(alloc, within, client)?;
-    let id = number_at(alloc, 65536, u32::MAX, within, "id", client)?;
+    let id = number_at(alloc, FIRST_CLIENT, u32::MAX, within, "id", client)?;
     let at = address_at(alloc, within, "address", client)?;
     Ok(Address { id, at })
 }

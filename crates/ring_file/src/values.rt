@@ -1,41 +1,11 @@
 ghost use Rattle.std.specs.Prelude.{◌≡◌, IfOk, option_map, option_copied};
-ghost use Rattle.std.specs.List.{list_all};
 ghost use Rattle.toml.specs.View.{view, array_view, items_view};
-ghost use Rattle.ring_types.specs.Names.{is_name_byte, is_name, is_address};
 ghost use Rattle.ring_file.specs.Values.{name_in, address_in, number_in, kind_in, kind_named, server_in, uuid_of, each, array_in, are_tables, tables_in};
 
-use ring_types::{Kind, List, Memory, Text};
+use ring_types::{Kind, List, Memory, Text, is_address, is_name};
 use std::alloc::Global;
 use toml::Value;
 use uuid::Uuid;
-
-fn is_name_byte(byte: u8) -> bool
-    ensures { result ≡ is_name_byte byte }
-{
-    (b'a' <= byte && byte <= b'z')
-        || (b'A' <= byte && byte <= b'Z')
-        || (b'0' <= byte && byte <= b'9')
-        || byte == b'_'
-}
-
-fn are_name_bytes(bytes: &[u8]) -> bool
-    ensures { result ≡ list_all is_name_byte bytes.now }
-{
-    bytes.iter().all(|byte| is_name_byte(*byte))
-}
-
-/// Whether the text is 1 to 64 ASCII letters, digits and underscores.
-pub(crate) fn is_name(text: &str) -> bool
-    ensures { result ≡ is_name text.now }
-{
-    1 <= text.len() && text.len() <= 64 && are_name_bytes(text.as_bytes())
-}
-
-fn is_address(text: &str) -> bool
-    ensures { result ≡ is_address text.now }
-{
-    1 <= text.len() && text.len() <= 255
-}
 
 /// The name that the value is.
 pub(crate) fn name_in(alloc: Global, value: &Value) -> Result<Option<Text>, Memory>
@@ -43,8 +13,8 @@ pub(crate) fn name_in(alloc: Global, value: &Value) -> Result<Option<Text>, Memo
 {
     match value.as_str() {
         Some(text) => {
-            if is_name(text) {
-                Ok(Some(Text::from_string(String::from_str(alloc, text)?)))
+            if is_name(text.as_bytes()) {
+                Ok(Some(Text::copy_of(alloc, text)?))
             } else {
                 Ok(None)
             }
@@ -59,8 +29,8 @@ pub(crate) fn address_in(alloc: Global, value: &Value) -> Result<Option<Text>, M
 {
     match value.as_str() {
         Some(text) => {
-            if is_address(text) {
-                Ok(Some(Text::from_string(String::from_str(alloc, text)?)))
+            if is_address(text.as_bytes()) {
+                Ok(Some(Text::copy_of(alloc, text)?))
             } else {
                 Ok(None)
             }

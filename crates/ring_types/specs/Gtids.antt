@@ -36,7 +36,7 @@ abbrev pub joined : ℕ → List Interval → List Interval
 joined n [] = record { first = n; last = n } ∷ []
 joined n (i ∷ rest) = if i.first == n + 1 then record { first = n; last = i.last } ∷ rest else record { first = n; last = n } ∷ (i ∷ rest)
 
--- ascending numbers as intervals
+-- ascending numbers, put together as intervals
 abbrev pub intervals_of : List ℕ → List Interval
 intervals_of [] = []
 intervals_of (n ∷ numbers) = joined n (intervals_of numbers)

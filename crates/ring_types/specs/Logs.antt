@@ -25,18 +25,18 @@ region_at home [] (suc k) = home
 region_at home (e ∷ log) (suc zero) = e.region
 region_at home (e ∷ log) (suc (suc k)) = region_at home log (suc k)
 
--- the opid of the last entry, 0:0 for the empty log
+-- the opid of the last entry; an empty log ends at 0:0, before the first entry
 abbrev pub last : List Entry → Opid
 last log = record { term = term_at log (length log); position = length log }
 
 abbrev pub same_opid : Opid → Opid → Bool
 same_opid a b = a.term == b.term && a.position == b.position
 
--- a is at least b: a later term, or the same term and no smaller position (Raft's up-to-date test)
+-- `a` is as up to date as `b` (Raft): its term is later, or its term is the same and its position no smaller
 abbrev pub at_least : Opid → Opid → Bool
 at_least a b = nat_lt b.term a.term || (a.term == b.term && nat_le b.position a.position)
 
--- the log has an entry of this opid
+-- some entry of the log has this opid
 abbrev pub has_opid : List Entry → Opid → Bool
 has_opid log o = list_any (λ (e : Entry). same_opid e.opid o) log
 
@@ -50,7 +50,7 @@ is_txn e = elim e.payload [ NoOp ↦ false | Rotate ↦ false | Txn t ↦ true ]
 abbrev pub rotates : List Entry → ℕ
 rotates log = count_by is_rotate log
 
--- the p-th entry has position p, terms do not fall, and the limits hold
+-- a log is so: entries stand at their positions, terms never fall, and the limits hold
 pub record IsLog (log : List Entry) : Type 0 where
   pub placed : (k : ℕ) (e : Entry) → entry_at log k ≡ Some e → e.opid.position ≡ k
   pub rises : (j k : ℕ) → j ≤ k → k ≤ length log → term_at log j ≤ term_at log k

@@ -15,12 +15,12 @@ is_name text = nat_le 1 (length text) && nat_le (length text) NAME_BYTES && list
 abbrev pub is_address : List ℕ → Bool
 is_address text = nat_le 1 (length text) && nat_le (length text) ADDRESS_BYTES
 
--- a number stands twice
+-- some number comes twice
 abbrev pub has_twice : List ℕ → Bool
 has_twice [] = false
 has_twice (x ∷ xs) = list_any (λ y. y == x) xs || has_twice xs
 
--- a text stands twice
+-- some text comes twice
 abbrev pub has_text_twice : List (List ℕ) → Bool
 has_text_twice [] = false
 has_text_twice (x ∷ xs) = list_any (λ y. bytes_eq y x) xs || has_text_twice xs

@@ -66,7 +66,7 @@ server_of ring id = option_map_or (λ (m : Member). m.server) (member_of ring id
 abbrev pub voters_of : Layout → ℕ → List Member
 voters_of ring region = filter (λ (m : Member). m.region == region && is_voter m.kind) ring.members
 
--- more than half of so many
+-- the least count that is more than half of `n`
 abbrev pub majority : ℕ → ℕ
 majority n = n / 2 + 1
 
@@ -109,7 +109,7 @@ is_in_range p = is_name p.home && list_all is_name p.regions && list_all part_fi
 abbrev pub too_many : RingParts → Bool
 too_many p = nat_lt MOST_MEMBERS (length p.members) || nat_lt MOST_REGIONS (length p.regions) || nat_lt MOST_CLIENTS (length p.clients) || nat_lt MOST_TABLES (length p.schema.tables)
 
--- a node's or a client's number, a region's name or a server's uuid stands twice
+-- two nodes or two clients have one number, two regions one name, or two servers one uuid
 abbrev pub twice_named : RingParts → Bool
 twice_named p =
     has_twice (map (λ (m : MemberPart). m.id) p.members)
@@ -121,15 +121,15 @@ twice_named p =
 abbrev pub is_declared : List (List ℕ) → List ℕ → Bool
 is_declared regions name = list_any (λ r. bytes_eq r name) regions
 
--- the home region or a node's region is not declared
+-- the home region, or the region of a node, is not declared
 abbrev pub no_region : RingParts → Bool
 no_region p = not (is_declared p.regions p.home) || list_any (λ (m : MemberPart). not (is_declared p.regions m.region)) p.members
 
--- a voter stands in the region of that name
+-- the region of that name has a node that votes
 abbrev pub has_voter : List MemberPart → List ℕ → Bool
 has_voter parts name = list_any (λ (m : MemberPart). bytes_eq m.region name && is_voter m.kind) parts
 
--- a declared region has no voter
+-- a region has no node that votes
 abbrev pub no_voter : RingParts → Bool
 no_voter p = list_any (λ r. not (has_voter p.members r)) p.regions
 
@@ -168,14 +168,14 @@ built p =
     else (if bad_schema p.schema then Err refusal.BadSchema
     else Ok (layout_of p)))))
 
--- what a call answers for parts of which this is to be made: the same, or want of memory
+-- how a call that is to give `wanted` may answer: by that, or by want of memory
 abbrev pub Answers : Result Layout BuildError → Result Layout BuildError → Type 0
 Answers wanted (Ok ring) = wanted ≡ Ok ring
 Answers wanted (Err refusal.Memory) = Unit {0}
 Answers wanted (Err e) = wanted ≡ Err e
 
 -- ---- what every built ring is
--- a schema such as a built ring has
+-- the schema of a built ring passes these tests
 abbrev pub is_schema : Schema → Bool
 is_schema s = schema_fits s && nat_le (length s.tables) MOST_TABLES && not (bad_schema s)
 
@@ -188,7 +188,7 @@ region_has_voter ring region = list_any (λ (m : Member). m.region == region && 
 abbrev pub member_fits : Member → Bool
 member_fits m = nat_le 1 m.id && nat_le m.id LAST_NODE && address_fits m.address
 
--- each thing is named once, each region from 1 to their number has a voter, and all is within its limits
+-- every built ring is so: nothing is named twice, each region has a voter, and the limits hold
 pub record IsRing (ring : Layout) : Type 0 where
   pub few_members : length ring.members ≤ MOST_MEMBERS
   pub few_regions : length ring.regions ≤ MOST_REGIONS

@@ -52,13 +52,13 @@ value_fits shape.Int (value.Int n) = true
 value_fits (shape.Text limit) (value.Text t) = nat_le (length t) limit
 value_fits _ _ = false
 
--- one value per column, each of the column's shape or Null
+-- the row has a value for each column, and each value suits its column or is Null
 abbrev pub values_fit : List Column → List Value → Bool
 values_fit [] [] = true
 values_fit (c ∷ columns) (v ∷ row) = value_fits c.shape v && values_fit columns row
 values_fit _ _ = false
 
--- the row has a value for each column, and its key is not Null
+-- the values fit, and the key, which comes first, is not Null
 abbrev pub row_fits : Table → List Value → Bool
 row_fits table row = values_fit table.columns row && not (is_null (key_of row))
 
@@ -95,7 +95,7 @@ fits_table table (Insert name row) = row_fits table row
 fits_table table (Update name row) = row_fits table row
 fits_table table (Delete name key) = key_fits table key
 
--- the change names a table of the schema, and has a row or a key that fits it
+-- the schema has the table that the change names, and the row or the key fits that table
 abbrev pub change_fits : Schema → Change → Bool
 change_fits schema c = option_map_or (λ (t : Table). fits_table t c) (table_of schema (table_name c)) false
 
@@ -173,7 +173,7 @@ refusal_of schema tables c = option_map_or (λ place. refusal_in schema tables p
 unfoldable pub changed : Schema → Tables → Change → Tables
 changed schema tables c = option_map_or (λ place. slice_set tables place (rows_after (rows_at tables place) c)) (place_in schema (table_name c)) tables
 
--- the first refusal, each change taken on the tables after those before it
+-- the first refusal: each change meets the tables as the changes before it left them
 abbrev pub check : Schema → Tables → List Change → Option RowRefusal
 check schema tables [] = None
 check schema tables (c ∷ changes) = elim (refusal_of schema tables c) [ None ↦ check schema (changed schema tables c) changes | Some r ↦ Some r ]
@@ -182,7 +182,7 @@ abbrev pub all_changed : Schema → Tables → List Change → Tables
 all_changed schema tables [] = tables
 all_changed schema tables (c ∷ changes) = all_changed schema (changed schema tables c) changes
 
--- a transaction that is refused leaves the tables
+-- a transaction of which one change is refused changes nothing
 abbrev pub applied : Schema → Tables → List Change → Tables
 applied schema tables changes = if is_none (check schema tables changes) then all_changed schema tables changes else tables
 
@@ -191,7 +191,7 @@ after_payload schema tables payload.NoOp = tables
 after_payload schema tables payload.Rotate = tables
 after_payload schema tables (payload.Txn t) = applied schema tables t.changes
 
--- what entries make of the tables, from these on
+-- what the entries make of these tables
 abbrev pub rows_from : Schema → Tables → List Entry → Tables
 rows_from schema tables [] = tables
 rows_from schema tables (e ∷ log) = rows_from schema (after_payload schema tables e.payload) log
@@ -209,6 +209,6 @@ abbrev pub is_valid_from : Schema → Tables → List Entry → Bool
 is_valid_from schema tables [] = true
 is_valid_from schema tables (e ∷ log) = payload_is_accepted schema tables e.payload && is_valid_from schema (after_payload schema tables e.payload) log
 
--- each transaction is accepted over the rows of those before it
+-- no transaction is refused: each meets the rows that the ones before it left
 unfoldable pub is_valid : Schema → List Entry → Bool
 is_valid schema log = is_valid_from schema (empty_tables schema) log

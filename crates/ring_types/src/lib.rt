@@ -1,9 +1,18 @@
 //! The types of a ring: members, regions, entries of the log, schemas, and the built ring itself.
 //!
 //! A ring is declared once as [`RingParts`] and made by [`Ring::build`], which names the first fault
-//! that the parts have. Everything that holds several items holds a [`List`] and every text is a
-//! [`Text`]: contracts see them as lists and as lists of bytes, so that values compare as data.
-//! A value is copied by [`Duplicate`], whose one contract is that the copy equals its source.
+//! that the parts have. A built [`Ring`] never changes, and answers what a node asks of a number:
+//! whose it is, whether that member votes and has an engine, and where it is.
+//!
+//! Everything that holds several items holds a [`List`], and every text is a [`Text`]. Contracts see
+//! them as lists and as lists of bytes, so that values compare as data. A value is copied by
+//! [`Duplicate`], whose one contract is that the copy equals its source.
+//!
+//! A log is a slice of [`Entry`]: [`term_at`], [`region_at`] and [`last`] read it by position, counted
+//! from 1, and [`at_least`] compares two logs by their ends, as Raft's voters do.
+//!
+//! Each limit is one constant, as [`MOST_MEMBERS`]. The definitions cite it too, so that a contract
+//! and the code cannot name two numbers.
 #![tactic(auto)]
 
 mod duplication;

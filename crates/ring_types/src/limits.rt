@@ -1,4 +1,4 @@
-//! Each limit of a ring, once. Definitions and code cite these names, so that no number stands twice.
+//! Each limit has one constant, which definitions and code cite alike.
 
 /// How many members a ring may declare.
 pub const MOST_MEMBERS: usize = 64;

@@ -27,7 +27,7 @@ fn index_of(regions: &List<Text>, name: &Text) -> Option<usize>
     regions.as_slice().iter().position(|region| region == name)
 }
 
-/// The place of a region among the declared ones, counted from 1; 0 where it is not declared.
+/// The place of a region among the declared ones, counted from 1; 0 if it is not declared.
 pub(crate) fn place_of(regions: &List<Text>, name: &Text) -> RegionId
     requires { length regions.now < 17 }
     ensures { result ≡ place_of regions.now name.now }

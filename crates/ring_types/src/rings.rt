@@ -13,18 +13,18 @@ use crate::texts::Text;
 use std::alloc::Global;
 use std::marker::Model;
 
-/// Why a declared ring is refused; the causes are tested in this order.
+/// Why a declared ring is refused. The causes are tested in this order.
 #[derive(Clone, Copy, Debug, PartialEq, Eq, thiserror::Error)]
 pub enum BuildError {
     #[error("too many nodes, regions, clients or tables")]
     TooMany,
-    #[error("a node or client number, a region or a server uuid stands twice")]
+    #[error("two nodes or two clients have one number, two regions one name, or two servers one uuid")]
     TwiceNamed,
-    #[error("the home region or a node's region is not declared")]
+    #[error("the home region, or the region of a node, is not declared")]
     NoRegion,
-    #[error("a declared region has no voter")]
+    #[error("a region has no node that votes")]
     NoVoter,
-    #[error("two tables have one name, or a table's columns are none, too many or named twice")]
+    #[error("two tables have one name, or a table has no column, too many, or two of one name")]
     BadSchema,
     #[error("out of memory")]
     Memory,
@@ -134,7 +134,7 @@ impl Ring {
         }
     }
 
-    /// What every built ring is, for callers whose proofs need it. It does nothing.
+    /// Does nothing: its clause gives what every built ring is to a caller whose proof needs it.
     pub fn law_built(&self)
         ensures { IsRing self.now }
     {
@@ -142,7 +142,7 @@ impl Ring {
     }
 }
 
-/// The ring of parts that nothing refuses.
+/// The ring of parts that nothing refuses: regions by name become regions by place.
 #[tactic(auto, unfolding(crate::specs::Rings::layout_of))]
 fn lay_out(alloc: Global, parts: RingParts) -> Result<Ring, Memory>
     requires { IsRing (layout_of parts) }

@@ -4,7 +4,7 @@ use crate::texts::Text;
 use std::alloc::Global;
 
 /// A global transaction identifier of MySQL: the server's uuid as a number, big end first, and the
-/// transaction's number on that server, from 1 to 2^63 - 2.
+/// transaction's number on that server, from 1 to [`LAST_GTID`](crate::LAST_GTID).
 #[derive(Clone, Copy, Debug, PartialEq, Eq)]
 pub struct Gtid {
     pub server: u128,

@@ -1,6 +1,4 @@
 ghost use Rattle.std.specs.Prelude.{◌≡◌, IsSome};
-ghost use Rattle.std.specs.List.{list_all};
-ghost use Rattle.ring_types.specs.Names.{is_name, is_name_byte};
 ghost use Rattle.schedule_text.specs.Cutting.{words_after, parts_after};
 ghost use Rattle.schedule_text.specs.Reading.{Gives, provided};
 ghost use Rattle.schedule_text.specs.Changes.{writing, change_at, named_of, change_of, next_words, changes_of};
@@ -10,29 +8,8 @@ use crate::faults::LineError;
 use crate::rows::{row, value};
 use crate::suffixes::cut_at;
 use ring_model::CutAt;
-use ring_types::{Change, List, Text, Value};
+use ring_types::{Change, List, Text, Value, is_name};
 use std::alloc::Global;
-
-fn is_name_byte(byte: u8) -> bool
-    ensures { result ≡ is_name_byte byte }
-{
-    (b'a' <= byte && byte <= b'z')
-        || (b'A' <= byte && byte <= b'Z')
-        || (b'0' <= byte && byte <= b'9')
-        || byte == b'_'
-}
-
-fn all_name_bytes(word: &[u8]) -> bool
-    ensures { result ≡ list_all is_name_byte word.now }
-{
-    word.iter().all(|byte| is_name_byte(*byte))
-}
-
-fn is_name(word: &[u8]) -> bool
-    ensures { result ≡ is_name word.now }
-{
-    1 <= word.len() && word.len() <= 64 && all_name_bytes(word)
-}
 
 /// The table's name, which must be a name.
 fn table(alloc: Global, word: &[u8]) -> Result<Text, LineError>

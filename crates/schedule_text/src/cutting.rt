@@ -70,7 +70,7 @@ pub(crate) fn word(rest: &[u8]) -> Result<(&[u8], &[u8]), LineError>
     }
 }
 
-/// That no word is left.
+/// Refuses the line if a word is left.
 pub(crate) fn no_more_words(rest: &[u8]) -> Result<(), LineError>
     ensures { Gives (λ x. tt) result (ended (words_after rest.now)) }
 {
@@ -80,7 +80,7 @@ pub(crate) fn no_more_words(rest: &[u8]) -> Result<(), LineError>
     }
 }
 
-/// That no part is left.
+/// Refuses the line if a part is left.
 pub(crate) fn no_more_parts(rest: &[u8]) -> Result<(), LineError>
     ensures { Gives (λ x. tt) result (ended (parts_after rest.now)) }
 {
@@ -117,7 +117,7 @@ pub(crate) fn text(bytes: Vec<u8>) -> Result<Text, LineError>
     }
 }
 
-/// That a test holds.
+/// Refuses the line unless `test` holds.
 pub(crate) fn provided(test: bool) -> Result<(), LineError>
     ensures { Gives (λ x. tt) result (provided test) }
 {

@@ -35,7 +35,7 @@ pub fn pair<T: Drop>(rt: &(impl AllocGlobal + Abort), first: T, second: T) -> Li
 }
 
 pub fn text(rt: &(impl AllocGlobal + Abort), of: &str) -> Text {
-    Text::from_string(String::from_str(rt.alloc(), of).expect(rt, "memory"))
+    Text::copy_of(rt.alloc(), of).expect(rt, "memory")
 }
 
 // ---- rings

@@ -154,7 +154,7 @@ fn at_most_64_nodes(rt: HostRuntime) -> Result<(), Fail> {
     assert_eq!(rt; answer(rt.alloc(), fits.as_bytes())?.as_str(), "ring");
     nodes.push('e')?;
     let more = ring_text(rt.alloc(), "\"east\"", nodes.as_str())?;
-    let wanted = "more than 64 nodes, 16 regions, 64 clients or 256 tables";
+    let wanted = "too many nodes, regions, clients or tables";
     assert_eq!(rt; answer(rt.alloc(), more.as_bytes())?.as_str(), wanted);
     Ok(())
 }

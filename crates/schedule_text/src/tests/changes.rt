@@ -4,37 +4,27 @@ use ring_types::{Change, Keep, List, Memory, Text, Value};
 use std::alloc::Global;
 use std::test::Fail;
 
-fn text(alloc: Global, text: &str) -> Result<Text, Memory> {
-    Ok(Text::from_string(String::from_str(alloc, text)?))
-}
-
 fn quoted(alloc: Global, written: &str) -> Result<Value, Memory> {
-    Ok(Value::Text(text(alloc, written)?))
+    Ok(Value::Text(Text::copy_of(alloc, written)?))
 }
 
 fn insert(alloc: Global, table: &str, row: List<Value>) -> Result<Change, Memory> {
-    let table = text(alloc, table)?;
+    let table = Text::copy_of(alloc, table)?;
     Ok(Change::Insert { table, row })
 }
 
 fn update(alloc: Global, table: &str, row: List<Value>) -> Result<Change, Memory> {
-    let table = text(alloc, table)?;
+    let table = Text::copy_of(alloc, table)?;
     Ok(Change::Update { table, row })
 }
 
 fn delete(alloc: Global, table: &str, key: Value) -> Result<Change, Memory> {
-    let table = text(alloc, table)?;
+    let table = Text::copy_of(alloc, table)?;
     Ok(Change::Delete { table, key })
 }
 
-fn one(alloc: Global, value: Value) -> Result<List<Value>, Memory> {
-    let mut row = List::new(alloc);
-    row.push(value)?;
-    Ok(row)
-}
-
 fn two(alloc: Global, first: Value, second: Value) -> Result<List<Value>, Memory> {
-    let mut row = one(alloc, first)?;
+    let mut row = List::of_one(alloc, first)?;
     row.push(second)?;
     Ok(row)
 }
@@ -48,7 +38,7 @@ fn writes(alloc: Global, line: &str, changes: List<Change>, cut: Option<CutAt>) 
 /// Whether the line inserts this one value into `t` at node 1.
 fn inserts(alloc: Global, line: &str, value: Value) -> Result<bool, Memory> {
     let mut changes = List::new(alloc);
-    changes.push(insert(alloc, "t", one(alloc, value)?)?)?;
+    changes.push(insert(alloc, "t", List::of_one(alloc, value)?)?)?;
     Ok(writes(alloc, line, changes, None))
 }
 
