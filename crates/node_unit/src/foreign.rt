@@ -1,33 +1,14 @@
 ghost use Rattle.std.specs.Prelude.{◌≡◌};
-ghost use Rattle.ring_types.specs.Rings as rings;
 ghost use Rattle.ring_model.specs.Dispatch as spec;
 
 use ring_model::{Body, Message};
 use ring_types::{NodeId, Ring};
 
-fn is_member(ring: &Ring, id: u32) -> bool
-    ensures { result ≡ rings.is_member ring.now id }
-{
-    ring.members()
-        .as_slice()
-        .iter()
-        .any(|member| member.id.0 == id)
-}
-
 /// Whether the number is that of another member.
 fn is_other(ring: &Ring, me: NodeId, id: u32) -> bool
     ensures { result ≡ spec.is_other ring.now me id }
 {
-    is_member(ring, id) && id != me.0
-}
-
-fn is_client(ring: &Ring, id: u32) -> bool
-    ensures { result ≡ rings.is_client ring.now id }
-{
-    ring.clients()
-        .as_slice()
-        .iter()
-        .any(|client| client.id == id)
+    ring.is_member(NodeId(id)) && id != me.0
 }
 
 fn is_foreign_body(ring: &Ring, me: NodeId, from: u32, body: &Body) -> bool
@@ -44,10 +25,10 @@ fn is_foreign_body(ring: &Ring, me: NodeId, from: u32, body: &Body) -> bool
         Body::MockReply(_) => !is_other(ring, me, from),
         Body::MockResult(_) => !is_other(ring, me, from),
         Body::TimeoutNow { .. } => !is_other(ring, me, from),
-        Body::ClientWrite { .. } => !is_client(ring, from),
-        Body::ClientRotate => !is_client(ring, from),
-        Body::ClientTransfer { .. } => !is_client(ring, from),
-        Body::ClientCancel => !is_client(ring, from),
+        Body::ClientWrite { .. } => !ring.is_client(from),
+        Body::ClientRotate => !ring.is_client(from),
+        Body::ClientTransfer { .. } => !ring.is_client(from),
+        Body::ClientCancel => !ring.is_client(from),
         Body::ClientReply { .. } => true,
     }
 }
