@@ -5,9 +5,9 @@ ghost use Rattle.ring_model.specs.Writes.{committed_rows};
 ghost use Rattle.ring_model.specs.declared.effects.Action.TheVariants as action;
 ghost use Rattle.ring_replay.specs.Applying.{HasRows, accepted};
 
+use commit_pipeline::done;
 use ring_model::{Action, Durable};
 use ring_plain::{Tables, changed, entry_at, joined, refusal_of, rows};
-use ring_step::done;
 use ring_types::{Change, Entry, List, Memory, Payload, Ring, Schema};
 use std::alloc::Global;
 

@@ -10,8 +10,8 @@ ghost use Rattle.ring_replay.specs.Steps.{ended_node, downed_node, restarted_nod
 ghost use Rattle.ring_replay.specs.Turns.{turned_to, quiet_turn};
 
 use crate::engines::{Engine, all_after};
+use node_unit::step;
 use ring_model::{Durable, Input, Message, Mock, Role, Say, Shown, Soft, Step, Transfer};
-use ring_node::step;
 use ring_plain::{Tables, has_opid};
 use ring_types::{Duplicate, Entry, List, Memory, Pair, Ring};
 use std::alloc::Global;

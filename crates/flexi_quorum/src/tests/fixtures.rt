@@ -1,0 +1,90 @@
+//! A ring of three regions, and votes and grants from few parts. Want of memory ends the test.
+use ring_types::{
+    Grant, Kind, List, MemberPart, NodeId, RegionId, Ring, RingParts, Schema, Text, Vote,
+};
+use std::fmt::Debug;
+use std::process::Abort;
+
+/// Expects two values to be the same.
+pub fn same<T: PartialEq + Debug + Drop>(rt: &impl Abort, got: T, wanted: T) {
+    assert_eq!(rt; got, wanted);
+}
+
+pub fn with<T: Drop>(rt: &(impl AllocGlobal + Abort), front: List<T>, item: T) -> List<T> {
+    let mut list = front;
+    list.push(item).expect(rt, "memory");
+    list
+}
+
+pub fn none<T>(rt: &(impl AllocGlobal + Abort)) -> List<T> {
+    List::new(rt.alloc())
+}
+
+pub fn one<T: Drop>(rt: &(impl AllocGlobal + Abort), item: T) -> List<T> {
+    with(rt, none(rt), item)
+}
+
+pub fn pair<T: Drop>(rt: &(impl AllocGlobal + Abort), first: T, second: T) -> List<T> {
+    with(rt, one(rt, first), second)
+}
+
+fn text(rt: &(impl AllocGlobal + Abort), of: &str) -> Text {
+    Text::from_string(String::from_str(rt.alloc(), of).expect(rt, "memory"))
+}
+
+fn schema(rt: &(impl AllocGlobal + Abort)) -> Schema {
+    Schema {
+        database: text(rt, "app"),
+        tables: none(rt),
+    }
+}
+
+fn member(rt: &(impl AllocGlobal + Abort), id: u32, region: &str, kind: Kind) -> MemberPart {
+    MemberPart {
+        id,
+        region: text(rt, region),
+        kind,
+        server: 1000 + u128::from(id),
+        address: None,
+    }
+}
+
+fn spread_regions(rt: &(impl AllocGlobal + Abort)) -> List<Text> {
+    let two = pair(rt, text(rt, "a"), text(rt, "b"));
+    with(rt, two, text(rt, "c"))
+}
+
+fn spread_members(rt: &(impl AllocGlobal + Abort)) -> List<MemberPart> {
+    let first = one(rt, member(rt, 1, "a", Kind::Full));
+    let two = with(rt, first, member(rt, 2, "b", Kind::Full));
+    let voters = with(rt, two, member(rt, 3, "c", Kind::Full));
+    with(rt, voters, member(rt, 4, "a", Kind::Learner))
+}
+
+/// The voters 1, 2 and 3, each in a region of its own, and the learner 4 in the first.
+pub fn spread(rt: &(impl AllocGlobal + Abort)) -> Ring {
+    let parts = RingParts {
+        home: text(rt, "a"),
+        regions: spread_regions(rt),
+        members: spread_members(rt),
+        clients: none(rt),
+        schema: schema(rt),
+    };
+    assert!(rt; parts.is_in_range());
+    Ring::build(rt.alloc(), parts).expect(rt, "a ring")
+}
+
+pub fn vote(term: u64, candidate: u32, region: u16) -> Vote {
+    Vote {
+        term,
+        candidate: NodeId(candidate),
+        region: RegionId(region),
+    }
+}
+
+pub fn grant(voter: u32, votes: List<Vote>) -> Grant {
+    Grant {
+        voter: NodeId(voter),
+        votes,
+    }
+}

@@ -1,4 +1,0 @@
-pub mod Greatest
-pub mod Following
-pub mod Closing
-pub mod Pairs

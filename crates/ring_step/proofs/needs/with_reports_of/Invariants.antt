@@ -1,8 +1,0 @@
--- the reports of the votes so far stand after the front
-use Rattle.std.proofs.Common.{◌≡◌, ◌++◌, map, take}
-use Rattle.ring_types.specs.declared.entries.Vote.{Vote}
-use Rattle.ring_model.specs.Needs.{Report}
-use Rattle.ring_step.proofs.needs.with_reports_of.Given as goal
-
-abbrev pub invariant-loop-vote : goal.invariant-loop-vote
-invariant-loop-vote l = l.told ≡ l.fn.front ++ map (λ (v : Vote). let r : Report = record { voter = l.grant.voter; region = v.region } in r) (take l.vote-index l.vote-items)
