@@ -6,7 +6,7 @@ use ring_types::{
 use std::alloc::Global;
 
 /// A durable action: one switch of a control block.
-#[derive(Debug, PartialEq, Eq, Drop)]
+#[derive(PartialEq, Drop)]
 pub enum Action {
     SetTerm(u64),
     /// Drops the votes of terms up to `floor` and adds `vote`.
@@ -23,14 +23,14 @@ pub enum Action {
 }
 
 /// Something said to a client; client 0 is the schedule.
-#[derive(Debug, PartialEq, Eq, Drop)]
+#[derive(PartialEq, Drop)]
 pub struct Say {
     pub client: u32,
     pub what: What,
 }
 
 /// What is said to a client.
-#[derive(Debug, PartialEq, Eq, Drop)]
+#[derive(PartialEq, Drop)]
 pub enum What {
     /// The write stands; `term` is the leader's term at the telling.
     Committed { gtid: Gtid, opid: Opid, term: u64 },
@@ -44,7 +44,7 @@ pub enum What {
 }
 
 /// Why a client's command is refused; the causes are tested in this order.
-#[derive(Debug, PartialEq, Eq, Drop)]
+#[derive(PartialEq, Drop)]
 pub enum Cause {
     NotLeader,
     NotReady,
@@ -67,7 +67,7 @@ pub enum Cause {
 }
 
 /// What a step does: actions in order, then messages in order, then sayings.
-#[derive(Debug, PartialEq, Eq, Drop)]
+#[derive(PartialEq, Drop)]
 pub struct Plan {
     pub actions: List<Action>,
     pub messages: List<Message>,
@@ -75,21 +75,21 @@ pub struct Plan {
 }
 
 /// A step: its plan and the new soft part.
-#[derive(Debug, PartialEq, Eq, Drop)]
+#[derive(PartialEq, Drop)]
 pub struct Step {
     pub plan: Plan,
     pub soft: Soft,
 }
 
 /// What a step sends and says once its actions are done.
-#[derive(Debug, PartialEq, Eq, Drop)]
+#[derive(PartialEq, Drop)]
 pub struct Outcome {
     pub messages: List<Message>,
     pub says: List<Say>,
 }
 
 /// A committed position at which a message holds an entry of another term: no ring sends that.
-#[derive(Clone, Copy, Debug, PartialEq, Eq)]
+#[derive(Clone, Copy, PartialEq)]
 pub struct Tear {
     pub position: u64,
     pub kept_term: u64,

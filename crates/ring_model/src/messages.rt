@@ -3,7 +3,7 @@ use ring_types::{Change, Duplicate, Entry, List, Memory, NodeId, Opid, Vote};
 use std::alloc::Global;
 
 /// A message from a node or a client to another. Numbers below 65,536 are members'.
-#[derive(Debug, PartialEq, Eq, Drop)]
+#[derive(PartialEq, Drop)]
 pub struct Message {
     pub from: u32,
     pub to: u32,
@@ -11,7 +11,7 @@ pub struct Message {
 }
 
 /// What a message says.
-#[derive(Debug, PartialEq, Eq, Drop)]
+#[derive(PartialEq, Drop)]
 pub enum Body {
     RequestVote(RequestVote),
     VoteReply(VoteReply),
@@ -32,14 +32,14 @@ pub enum Body {
 }
 
 /// A candidate of `term` asks for a vote; `last` is the opid of its last entry (Raft).
-#[derive(Clone, Copy, Debug, PartialEq, Eq)]
+#[derive(Clone, Copy, PartialEq)]
 pub struct RequestVote {
     pub term: u64,
     pub last: Opid,
 }
 
 /// The answer, with the voter's term and, where granted, the votes that it reports (FlexiRaft).
-#[derive(Debug, PartialEq, Eq, Drop)]
+#[derive(PartialEq, Drop)]
 pub struct VoteReply {
     pub term: u64,
     pub granted: bool,
@@ -47,7 +47,7 @@ pub struct VoteReply {
 }
 
 /// Entries after `prev`, with the leader's commit count (Raft). A proxy sends it in the leader's name.
-#[derive(Debug, PartialEq, Eq, Drop)]
+#[derive(PartialEq, Drop)]
 pub struct Append {
     pub term: u64,
     pub leader: NodeId,
@@ -58,7 +58,7 @@ pub struct Append {
 
 /// The answer: `position` is the last matched one, or, where not ok, the position after which the
 /// leader may send next.
-#[derive(Clone, Copy, Debug, PartialEq, Eq)]
+#[derive(Clone, Copy, PartialEq)]
 pub struct AppendReply {
     pub term: u64,
     pub ok: bool,
@@ -66,7 +66,7 @@ pub struct AppendReply {
 }
 
 /// Asks a proxy to send `target` the entries of these opids (MyRaft).
-#[derive(Debug, PartialEq, Eq, Drop)]
+#[derive(PartialEq, Drop)]
 pub struct ProxyAppend {
     pub term: u64,
     pub target: NodeId,
@@ -76,7 +76,7 @@ pub struct ProxyAppend {
 }
 
 /// The leader asks a target to hold a mock election (MyRaft).
-#[derive(Clone, Copy, Debug, PartialEq, Eq)]
+#[derive(Clone, Copy, PartialEq)]
 pub struct MockStart {
     pub term: u64,
     pub round: u64,
@@ -84,7 +84,7 @@ pub struct MockStart {
 }
 
 /// The target asks a voter whether it is near enough to the leader's last entry.
-#[derive(Clone, Copy, Debug, PartialEq, Eq)]
+#[derive(Clone, Copy, PartialEq)]
 pub struct MockRequest {
     pub term: u64,
     pub round: u64,
@@ -92,7 +92,7 @@ pub struct MockRequest {
 }
 
 /// The voter's answer.
-#[derive(Clone, Copy, Debug, PartialEq, Eq)]
+#[derive(Clone, Copy, PartialEq)]
 pub struct MockReply {
     pub term: u64,
     pub round: u64,
@@ -100,7 +100,7 @@ pub struct MockReply {
 }
 
 /// The target tells the leader whether the mock election passed.
-#[derive(Clone, Copy, Debug, PartialEq, Eq)]
+#[derive(Clone, Copy, PartialEq)]
 pub struct MockResult {
     pub term: u64,
     pub round: u64,
@@ -108,7 +108,7 @@ pub struct MockResult {
 }
 
 /// What a node is given. A client's message is the input of that name.
-#[derive(Debug, PartialEq, Eq, Drop)]
+#[derive(PartialEq, Drop)]
 pub enum Input {
     Elect,
     Beat,

@@ -2,7 +2,7 @@ use ring_types::{Duplicate, Entry, Grant, Gtid, List, Memory, NodeId, Opid, Pair
 use std::alloc::Global;
 
 /// What a running node does in its term (Raft).
-#[derive(Clone, Copy, Debug, PartialEq, Eq)]
+#[derive(Clone, Copy, PartialEq)]
 pub enum Role {
     Follower,
     Candidate,
@@ -11,7 +11,7 @@ pub enum Role {
 
 /// What a leader knows of another member (Raft's match index and next index). `silent` counts the
 /// beats since its last reply, up to 3.
-#[derive(Clone, Copy, Debug, PartialEq, Eq)]
+#[derive(Clone, Copy, PartialEq)]
 pub struct Peer {
     pub node: NodeId,
     pub matched: u64,
@@ -20,7 +20,7 @@ pub struct Peer {
 }
 
 /// A write of a client that waits for its commit.
-#[derive(Clone, Copy, Debug, PartialEq, Eq)]
+#[derive(Clone, Copy, PartialEq)]
 pub struct Pending {
     pub client: u32,
     pub gtid: Gtid,
@@ -28,7 +28,7 @@ pub struct Pending {
 }
 
 /// How far a leader is in handing its role over (MyRaft).
-#[derive(Clone, Copy, Debug, PartialEq, Eq)]
+#[derive(Clone, Copy, PartialEq)]
 pub enum Transfer {
     Off,
     /// A mock election of this round is on.
@@ -46,7 +46,7 @@ pub enum Transfer {
 
 /// The mock election that a node holds for a leader (MyRaft). `last` is the leader's last opid;
 /// `passed` and `failed` stand in order of arrival.
-#[derive(Debug, PartialEq, Eq, Drop)]
+#[derive(PartialEq, Drop)]
 pub enum Mock {
     Off,
     On {
@@ -59,7 +59,7 @@ pub enum Mock {
 }
 
 /// The volatile part of a running node. A restart makes it anew.
-#[derive(Debug, PartialEq, Eq, Drop)]
+#[derive(PartialEq, Drop)]
 pub struct Soft {
     pub role: Role,
     /// The commit count: so many entries of the log are known to be committed (Raft).
@@ -79,7 +79,7 @@ pub struct Soft {
 }
 
 /// The durable part of a node: what a crash leaves.
-#[derive(Debug, PartialEq, Eq, Drop)]
+#[derive(PartialEq, Drop)]
 pub struct Durable {
     pub term: u64,
     /// The kept votes, in rising terms.

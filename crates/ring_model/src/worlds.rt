@@ -7,7 +7,7 @@ use ring_types::{Duplicate, Entry, Keep, List, Memory, NodeId};
 use std::alloc::Global;
 
 /// A node as it is shown; `soft` is None where the node is down.
-#[derive(Debug, PartialEq, Eq, Drop)]
+#[derive(PartialEq, Drop)]
 pub struct Shown {
     pub node: NodeId,
     pub durable: Durable,
@@ -15,7 +15,7 @@ pub struct Shown {
 }
 
 /// Something said by a node in an event.
-#[derive(Debug, PartialEq, Eq, Drop)]
+#[derive(PartialEq, Drop)]
 pub struct Said {
     pub event: u64,
     pub node: NodeId,
@@ -23,7 +23,7 @@ pub struct Said {
 }
 
 /// How many actions a step that was cut kept.
-#[derive(Clone, Copy, Debug, PartialEq, Eq)]
+#[derive(Clone, Copy, PartialEq)]
 pub struct Kept {
     pub event: u64,
     pub node: NodeId,
@@ -32,7 +32,7 @@ pub struct Kept {
 
 /// The ring after some events: nodes and cursors in ring order, and all that was ever sent, said,
 /// kept and chosen.
-#[derive(Debug, PartialEq, Eq, Drop)]
+#[derive(PartialEq, Drop)]
 pub struct World {
     pub events: u64,
     pub nodes: List<Shown>,
@@ -44,7 +44,7 @@ pub struct World {
 }
 
 /// An event of a schedule, with the line that it stands in. A generated event's line is its number.
-#[derive(Debug, PartialEq, Eq, Drop)]
+#[derive(PartialEq, Drop)]
 pub struct Event {
     pub line: u64,
     pub what: Line,
@@ -52,7 +52,7 @@ pub struct Event {
 }
 
 /// What a line of a schedule says.
-#[derive(Debug, PartialEq, Eq, Drop)]
+#[derive(PartialEq, Drop)]
 pub enum Line {
     At { node: NodeId, input: Input },
     /// Gives a message, by its number from 1, to its receiver.
@@ -69,7 +69,7 @@ pub enum Line {
 
 /// A suffix of a line: the call of the node's disk, counted from 1 in this event, at which the disk
 /// stops or fails.
-#[derive(Clone, Copy, Debug, PartialEq, Eq)]
+#[derive(Clone, Copy, PartialEq)]
 pub enum CutAt {
     Stop { call: u64, keep: Keep },
     Fail { call: u64 },

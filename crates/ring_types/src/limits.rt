@@ -36,7 +36,7 @@ pub const MOST_VOTES: usize = 1_024;
 /// How many entries one `AppendEntries` carries.
 pub const BATCH_ENTRIES: usize = 64;
 
-/// The bytes of the groups that one `AppendEntries` carries, unless its first entry alone has more.
+/// The bytes of the groups that one `AppendEntries` carries, all of them together.
 pub const BATCH_BYTES: u64 = 1_000_000;
 
 /// The bytes of one entry's group in the binary log.

@@ -4,12 +4,11 @@ use ring_types::{
     Change, Column, Entry, Gtid, Kind, List, MemberPart, NodeId, Opid, Payload, RegionId, Ring,
     RingParts, Schema, Shape, Table, Text, Txn, Value, Vote,
 };
-use std::fmt::Debug;
 use std::process::Abort;
 
 /// Expects two values to be the same.
-pub fn same<T: PartialEq + Debug + Drop>(rt: &impl Abort, got: T, wanted: T) {
-    assert_eq!(rt; got, wanted);
+pub fn same<T: PartialEq + Drop>(rt: &impl Abort, got: T, wanted: T) {
+    assert!(rt; got == wanted);
 }
 
 // ---- lists and texts

@@ -2,12 +2,11 @@
 use ring_types::{
     Grant, Kind, List, MemberPart, NodeId, RegionId, Ring, RingParts, Schema, Text, Vote,
 };
-use std::fmt::Debug;
 use std::process::Abort;
 
 /// Expects two values to be the same.
-pub fn same<T: PartialEq + Debug + Drop>(rt: &impl Abort, got: T, wanted: T) {
-    assert_eq!(rt; got, wanted);
+pub fn same<T: PartialEq + Drop>(rt: &impl Abort, got: T, wanted: T) {
+    assert!(rt; got == wanted);
 }
 
 pub fn with<T: Drop>(rt: &(impl AllocGlobal + Abort), front: List<T>, item: T) -> List<T> {
