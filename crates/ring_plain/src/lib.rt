@@ -21,8 +21,7 @@ pub use fitting::{
 };
 pub use gtid_numbers::{greatest_number, gtids, has, next_number};
 pub use keyed_rows::{has_key, key_refusal, placed, row_of, rows_after, with_row, without_key};
-pub use lists::{first_items, items_from, joined};
-pub use ring_types::{at_least, entry_at, has_opid, last, region_at, rotates, same_opid, term_at};
+pub use lists::{first_items, joined};
 pub use sizes::{change_size, changes_size, group_size, rows_event_size, table_map_size};
 pub use table_rows::{
     Tables, all_changed, applied, changed, check, empty_tables, is_valid, refusal_of, rows,

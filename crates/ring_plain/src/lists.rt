@@ -1,6 +1,6 @@
-ghost use Rattle.std.specs.Prelude.{◌≡◌, ◌++◌, IfOk, drop, take};
+ghost use Rattle.std.specs.Prelude.{◌≡◌, ◌++◌, IfOk, take};
 
-use ring_types::{Duplicate, List, Memory, after, first_of};
+use ring_types::{Duplicate, List, Memory, first_of};
 use std::alloc::Global;
 
 /// Copies of the first `count` items, or of all where there are fewer.
@@ -13,19 +13,6 @@ pub fn first_items<T: Duplicate + Drop>(
 {
     let mut copies = List::new(alloc);
     copies.extend_copies(alloc, first_of(items, count))?;
-    Ok(copies)
-}
-
-/// Copies of the items after the first `count`.
-pub fn items_from<T: Duplicate + Drop>(
-    alloc: Global,
-    items: &[T],
-    count: u64,
-) -> Result<List<T>, Memory>
-    ensures { IfOk result (λ it. it ≡ drop count items.now) }
-{
-    let mut copies = List::new(alloc);
-    copies.extend_copies(alloc, after(items, count))?;
     Ok(copies)
 }
 

@@ -7,8 +7,8 @@ ghost use Rattle.ring_replay.specs.Applying.{HasRows, accepted};
 
 use commit_pipeline::done;
 use ring_model::{Action, Durable};
-use ring_plain::{Tables, changed, entry_at, joined, refusal_of, rows};
-use ring_types::{Change, Entry, List, Memory, Payload, Ring, Schema};
+use ring_plain::{Tables, changed, joined, refusal_of, rows};
+use ring_types::{Change, Entry, List, Memory, Payload, Ring, Schema, entry_at};
 use std::alloc::Global;
 
 /// The entries that the engine has applied.

@@ -12,8 +12,8 @@ ghost use Rattle.ring_replay.specs.Turns.{turned_to, quiet_turn};
 use crate::engines::{Engine, all_after};
 use node_unit::step;
 use ring_model::{Durable, Input, Message, Mock, Role, Say, Shown, Soft, Step, Transfer};
-use ring_plain::{Tables, has_opid};
-use ring_types::{Duplicate, Entry, List, Memory, Pair, Ring};
+use ring_plain::Tables;
+use ring_types::{Duplicate, Entry, List, Memory, Pair, Ring, has_opid};
 use std::alloc::Global;
 
 /// What a turn makes of a node, and what the node then sends and says. `rows` are those that its
