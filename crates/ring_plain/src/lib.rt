@@ -1,5 +1,5 @@
-//! Plain bodies of the definitions about logs, rows, group sizes and GTID sets, as functions over
-//! the types of a ring.
+//! Plain bodies of the definitions about rows, group sizes and GTID sets, as functions over the types
+//! of a ring.
 //!
 //! They compute each definition case by case and copy what they return. They are the first body of
 //! the layers above, and the yardstick for faster ones.
