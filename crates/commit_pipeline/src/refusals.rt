@@ -1,7 +1,7 @@
 //! Why a client's command is refused: each test in the order in which the causes are told.
 ghost use Rattle.std.specs.Prelude.{◌≡◌, ◌-◌, ◌^◌, ◌<◌, ◌∷◌, [], false, None, nat_le, IfOk, length};
 ghost use Rattle.ring_types.specs.Rows as rows;
-ghost use Rattle.ring_model.specs.Replication.{file_number};
+ghost use Rattle.ring_model.specs.Replication.{file_limit, file_number};
 ghost use Rattle.ring_model.specs.Writes as spec;
 
 use crate::actions::holder_of;
@@ -190,7 +190,7 @@ pub(crate) fn write_refusal(
 }
 
 fn is_last_file(durable: &Durable) -> bool
-    ensures { result ≡ nat_le 999999 (file_number durable.now.log) }
+    ensures { result ≡ nat_le file_limit (file_number durable.now.log) }
 {
     LAST_FILE - 1 <= rotates(durable.log.as_slice())
 }
