@@ -162,7 +162,7 @@ follow_append ring me d s sent =
 abbrev pub outgrows : Durable → Append → Bool
 outgrows d sent = nat_lt file_limit (file_number d.log + rotates sent.entries)
 
--- a leader ignores a message of its own term
+-- no other node may lead the leader's own term, so what claims to is left aside
 abbrev pub leads_it : Durable → Soft → Append → Bool
 leads_it d s sent = is_leader s.role && sent.term == d.term
 

@@ -98,7 +98,7 @@ is_settled commit p = nat_le p.opid.position commit
 abbrev pub committed : ℕ → Pending → Say
 committed term p = record { client = p.client; what = what.Committed p.gtid p.opid term }
 
--- the pending writes up to the commit count are said `committed`, in order
+-- each client whose write the commit count has reached is told so, the earliest write first
 abbrev pub committeds : ℕ → ℕ → List Pending → List Say
 committeds term commit pending = map (committed term) (filter (is_settled commit) pending)
 

@@ -198,6 +198,6 @@ on_answer ring me d s from answer =
     then with_more (on_ack ring me d s from answer) (after_ok me d (on_ack ring me d s from answer).soft.peers from s.transfer)
     else on_ack ring me d s from answer
 
--- ---- the word to elect itself: of the node's own term, at a voter that does not lead
+-- ---- TimeoutNow: a voter stands for election if the word is of its term and it does not lead (Raft's leadership transfer)
 unfoldable pub on_timeout : Layout → ℕ → Durable → Soft → ℕ → Step
 on_timeout ring me d s term = if term == d.term && votes ring me && not (is_leader s.role) then elect ring me d s else idle s

@@ -86,7 +86,7 @@ abbrev pub ended : WorldState → ℕ → Durable → Step → Completion → Wo
 ended w id d st Whole = turned w id (record { durable = all_done d st.plan.actions; soft = Some st.soft }) st.plan.messages st.plan.says []
 ended w id d st (Cut count) = turned w id (record { durable = all_done d (take count st.plan.actions); soft = None }) [] [] (count ∷ [])
 
--- an input at a node that is down does nothing, and a message given to it is lost
+-- a node that is down takes nothing in: what it is given is gone
 abbrev pub handled : Layout → WorldState → ℕ → Input → Completion → Durable → Option Soft → WorldState
 handled ring w id given completion d None = passed w
 handled ring w id given completion d (Some s) = ended w id d (step ring id d s given) completion

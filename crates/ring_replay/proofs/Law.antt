@@ -1,5 +1,5 @@
 -- The step of the shown world is the model's: what a line makes of the world as it is shown is what it makes of the world, shown.
-use Rattle.std.proofs.Common.{◌≡◌, ℕ, ◌==◌, Bool, true, false, List, [], map, Option, Some, None, refl, ap, sym, ◌∙◌, arith, option_map, append-nil}
+use Rattle.std.proofs.Common.{◌≡◌, ℕ, ◌==◌, if◌then◌else◌, Bool, true, false, List, [], map, Option, Some, None, refl, ap, sym, ◌∙◌, arith, option_map, append-nil}
 use Rattle.std.specs.Prelude.{slice_get, slice_set}
 use Rattle.std.proofs.lemmas.Bool.Decides.{nat_tests}
 use Rattle.std.proofs.lemmas.Option.{slice_get-map}
