@@ -6,18 +6,19 @@ use Rattle.edge_traits.specs.Counts.{Rose}
 use Rattle.edge_traits.specs.Fetches.{FetchIs, FetchFails}
 use Rattle.edge_traits.specs.declared.shelves.FetchError.{FetchError}
 use Rattle.edge_traits.specs.declared.shelves.FetchError.TheVariants as fetch
-use Rattle.ring_types.specs.Rings.{Layout}
+use Rattle.ring_types.specs.Rings.{IsRing, Layout}
 use Rattle.ring_file.specs.Documents.{ring_of}
-use Rattle.myraft_run.specs.declared.reading.Inputs.{Inputs}
+use Rattle.myraft_run.specs.declared.inputs.Inputs.{Inputs}
 use Rattle.myraft_run.specs.declared.words.Names.{Names}
 use Rattle.myraft_run.specs.declared.stops.Stop.{Stop}
 use Rattle.myraft_run.specs.declared.stops.File.TheVariants as file
 use Rattle.myraft_run.specs.Words.{names_of}
-use Rattle.myraft_run.specs.Inputs.{◌>>=◌, Gives, got, inputs_from, inputs_with, ring_limit, ring_or_fault, schedule_limit}
+use Rattle.myraft_run.specs.Inputs.{◌>>=◌, Gives, GivesOne, got, inputs_from, inputs_with, ring_limit, ring_or_fault, schedule_limit}
+use Rattle.myraft_run.specs.Replays.{Ends, Replays}
 use Rattle.myraft_run.specs.Spans.{Files, ShelfIsSteady, ShelfSpan}
-use Rattle.myraft_run.specs.Command.{Answered, Held, told_answer}
-use Rattle.myraft_run.specs.Parts.{Fetches, Finds, FindsFromNames, FindsFromRing, FindsInputs}
-use Rattle.myraft_run.proofs.Binding.{gives-next, gives-or, gives-same, gives-stopped}
+use Rattle.myraft_run.specs.Command.{Answered, ComesTo, Held, told_answer}
+use Rattle.myraft_run.specs.Parts.{Fetches, Finds, FindsFromNames, FindsFromRing, FindsInputs, Works}
+use Rattle.myraft_run.proofs.Binding.{gives-err, gives-next, gives-or, gives-same, gives-stopped}
 
 free-told : (files : Files) (name : List ℕ) (limit : ℕ) → IfSome files (λ f. FetchIs (f name) limit (Err fetch.Memory))
 free-told None name limit = tt
@@ -164,3 +165,15 @@ answer-is shelf f name limit a is steady w =
 
 pub held-answer : (f : List ℕ → Option (List ℕ)) (name : List ℕ) (limit : ℕ) (bytes : List ℕ) → Held (Some f) name limit bytes → told_answer (f name) limit ≡ Ok bytes
 held-answer f name limit bytes h = told-ok (f name) limit bytes h.0 h.1
+
+-- ---- the work, from what is to be run and how it ended
+comes : (words : List (List ℕ)) (shelf : ShelfSpan) (found : Result Inputs Stop) (end : Result (List ℕ) Stop) → FindsInputs words shelf found → Ends found end → ComesTo words shelf end
+comes words shelf found end f e =
+    let P : Result Inputs Stop → Type 0 = λ i. Ends i end in
+    record { ring_answer = f.ring_answer; schedule_answer = f.schedule_answer; ring_answered = f.ring_answered; schedule_answered = f.schedule_answered; ends = subst P (sym f.comes) e }
+
+pub works_found : (words : List (List ℕ)) (shelf : ShelfSpan) (inputs : Inputs) (result : Result (List ℕ) Stop) → Finds words shelf (Ok inputs) → IsRing inputs.ring → GivesOne (Replays inputs.ring inputs.events) result → Works words shelf result
+works_found words shelf inputs result f valid h = gives-or (Replays inputs.ring inputs.events) (ComesTo words shelf) result (λ end r. comes words shelf (Ok inputs) end f (valid, r)) h
+
+pub works_stopped : (words : List (List ℕ)) (shelf : ShelfSpan) (e : Stop) → Finds words shelf (Err e) → Works words shelf (Err e)
+works_stopped words shelf e f = gives-err (FindsInputs words shelf) (ComesTo words shelf) e (λ s x. comes words shelf (Err s) (Err s) x refl) f

@@ -41,6 +41,17 @@ gives-or Wanted Also (Err (stop.BadLine n)) more h = more (Err (stop.BadLine n))
 gives-or Wanted Also (Err stop.WriteFault) more h = more (Err stop.WriteFault) h
 gives-or Wanted Also (Err stop.Memory) more h = tt
 
+-- a stop is one, whatever was to be made
+pub gives-err : {A B : Type 0} (Wanted : Result A Stop → Type 0) (Also : Result B Stop → Type 0) (e : Stop) → ((s : Stop) → Wanted (Err s) → Also (Err s)) → GivesOne Wanted (Err e) → GivesOne Also (Err e)
+gives-err Wanted Also stop.Unbuilt more h = more stop.Unbuilt h
+gives-err Wanted Also (stop.NoFile f) more h = more (stop.NoFile f) h
+gives-err Wanted Also (stop.TooLarge f) more h = more (stop.TooLarge f) h
+gives-err Wanted Also (stop.ReadFault f) more h = more (stop.ReadFault f) h
+gives-err Wanted Also (stop.BadRing e) more h = more (stop.BadRing e) h
+gives-err Wanted Also (stop.BadLine n) more h = more (stop.BadLine n) h
+gives-err Wanted Also stop.WriteFault more h = more stop.WriteFault h
+gives-err Wanted Also stop.Memory more h = tt
+
 pub gives-same : {A : Type 0} (r : Result A Stop) → Gives r r
 gives-same {A} r = gives-one (λ x. r ≡ x) r refl
 

@@ -7,5 +7,6 @@ pub mod Runs
 -- ---- what it comes to
 pub mod Printing
 pub mod Exact
+pub mod Causes
 -- ---- texts
 pub mod PutMore

@@ -11,7 +11,7 @@ use Rattle.ring_lawful.specs.Lawful.{EveryNodeIsSound, EveryRunningNodeIsLawful}
 use Rattle.ring_file.specs.Documents.{ring_of}
 use Rattle.schedule_text.specs.Schedules.{events_of}
 use Rattle.report_text.specs.Report.{report}
-use Rattle.myraft_run.specs.declared.reading.Inputs.{Inputs}
+use Rattle.myraft_run.specs.declared.inputs.Inputs.{Inputs}
 use Rattle.myraft_run.specs.declared.words.Names.{Names}
 use Rattle.myraft_run.specs.declared.stops.Stop.{Stop}
 use Rattle.myraft_run.specs.declared.stops.File.TheVariants as file

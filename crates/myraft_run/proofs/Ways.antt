@@ -1,5 +1,5 @@
 -- The events that were taken so far are a run; the next is taken after it, or refused there.
-use Rattle.std.proofs.Common.{◌≡◌, ℕ, ◌≤◌, true, false, List, [], ◌∷◌, ◌++◌, length, drop, map, IfOk, IfErr, Result, Ok, Err, refl, sym, ap, subst, suc, append_assoc, ◌∙◌, arith}
+use Rattle.std.proofs.Common.{◌≡◌, ℕ, ◌+◌, ◌≤◌, ◌<◌, add-one, drop-cons, get_or, true, false, List, [], ◌∷◌, ◌++◌, length, drop, map, IfOk, IfErr, Result, Ok, Err, refl, sym, ap, subst, suc, append_assoc, ◌∙◌, arith}
 use Rattle.std.proofs.lemmas.Grind.{common_steps}
 use Rattle.std.proofs.lemmas.List.{append-nil}
 use Rattle.std.specs.List.{Contains}
@@ -59,27 +59,33 @@ pub way-first : (ring : Layout) (events : List Event) (now : World) → now ≡ 
 unfolding world
 way-first ring events now is = record { before = []; split = refl; is_run = tt; is_shown = is }
 
+-- the event at an index is the first of those that are left
+pub next-event : (events : List Event) (i : ℕ) (e : Event) → i < length events → e ≡ get_or events i e → drop i events ≡ e ∷ drop (i + 1) events
+next-event events i e inside is =
+    let x : drop i events ≡ e ∷ drop (suc i) events = drop-cons events i e inside ∙ ap (λ (y : Event). y ∷ drop (suc i) events) (sym is) in
+    subst (λ (n : ℕ). drop i events ≡ e ∷ drop n events) (sym (add-one i)) x
+
 -- the next event was taken
-pub way-on : (ring : Layout) (events : List Event) (taken : ℕ) (now then : World) (e : Event) → OnTheWay ring events taken now → drop taken events ≡ e ∷ drop (suc taken) events
-    → ((w : WorldState) → now ≡ shown ring w → (is_known ring w e.what ≡ true) × (then ≡ shown ring (world_step ring w e Whole))) → OnTheWay ring events (suc taken) then
+pub way-on : (ring : Layout) (events : List Event) (taken : ℕ) (now then : World) (e : Event) → OnTheWay ring events taken now → drop taken events ≡ e ∷ drop (taken + 1) events
+    → ((w : WorldState) → now ≡ shown ring w → (is_known ring w e.what ≡ true) × (then ≡ shown ring (world_step ring w e Whole))) → OnTheWay ring events (taken + 1) then
 way-on ring events taken now then e x next takes =
     let y = takes (world ring (whole_moves x.before)) x.is_shown in
     record {
       before = x.before ++ e ∷ [];
-      split = x.split ∙ (ap (λ (rest : List Event). x.before ++ rest) next ∙ sym (append_assoc x.before (e ∷ []) (drop (suc taken) events)));
+      split = x.split ∙ (ap (λ (rest : List Event). x.before ++ rest) next ∙ sym (append_assoc x.before (e ∷ []) (drop (taken + 1) events)));
       is_run = one_more ring x.before e x.is_run y.0;
       is_shown = y.1 ∙ ap (shown ring) (sym (world_more ring x.before e));
     }
 
 -- the next event was refused
-pub way-refused : (ring : Layout) (events : List Event) (taken line : ℕ) (now : World) (e : Event) → OnTheWay ring events taken now → drop taken events ≡ e ∷ drop (suc taken) events
+pub way-refused : (ring : Layout) (events : List Event) (taken line : ℕ) (now : World) (e : Event) → OnTheWay ring events taken now → drop taken events ≡ e ∷ drop (taken + 1) events
     → ((w : WorldState) → now ≡ shown ring w → (is_known ring w e.what ≡ false) × (line ≡ e.line)) → Refuses ring events line
 way-refused ring events taken line now e x next refuses =
     let y = refuses (world ring (whole_moves x.before)) x.is_shown in
     record {
       before = x.before;
       refused = e;
-      after = drop (suc taken) events;
+      after = drop (taken + 1) events;
       split = x.split ∙ ap (λ (rest : List Event). x.before ++ rest) next;
       run = whole_moves x.before;
       runs = whole_run ring x.before x.is_run;
@@ -88,7 +94,7 @@ way-refused ring events taken line now e x next refuses =
     }
 
 -- a stop at an event is its line, or want of memory
-pub way-stopped : (ring : Layout) (events : List Event) (taken : ℕ) (now then : World) (e : Event) (s : Stop) → OnTheWay ring events taken now → drop taken events ≡ e ∷ drop (suc taken) events
+pub way-stopped : (ring : Layout) (events : List Event) (taken : ℕ) (now then : World) (e : Event) (s : Stop) → OnTheWay ring events taken now → drop taken events ≡ e ∷ drop (taken + 1) events
     → ((w : WorldState) → now ≡ shown ring w → Takes ring w e then (Err s)) → GivesOne (Replays ring events) (Err s)
 way-stopped ring events taken now then e (stop.BadLine line) x next takes = way-refused ring events taken line now e x next takes
 way-stopped ring events taken now then e stop.Memory x next takes = tt

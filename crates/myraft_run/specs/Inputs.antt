@@ -11,7 +11,7 @@ use Rattle.ring_file.specs.Documents.{ring_of}
 use Rattle.schedule_text.specs.declared.faults.ScheduleError.{ScheduleError}
 use Rattle.schedule_text.specs.declared.faults.ScheduleError.TheVariants as bad
 use Rattle.schedule_text.specs.Schedules.{events_of}
-use Rattle.myraft_run.specs.declared.reading.Inputs.{Inputs}
+use Rattle.myraft_run.specs.declared.inputs.Inputs.{Inputs}
 use Rattle.myraft_run.specs.declared.stops.Stop.{Stop}
 use Rattle.myraft_run.specs.declared.stops.Stop.TheVariants as stop
 use Rattle.myraft_run.specs.declared.stops.File.{File}
@@ -59,8 +59,12 @@ built_events events = if list_any has_suffix events then Err stop.Unbuilt else O
 abbrev pub inputs_on : Layout → List Event → Result Inputs Stop
 inputs_on ring events = Ok (record { ring = ring; events = events })
 
+-- the events of a schedule, of which none is of a form that is not built
+abbrev pub events_in : List ℕ → Result (List Event) Stop
+events_in bytes = events_or_line (events_of bytes) >>= built_events
+
 abbrev pub inputs_with : Layout → List ℕ → Result Inputs Stop
-inputs_with ring bytes = events_or_line (events_of bytes) >>= built_events >>= inputs_on ring
+inputs_with ring bytes = events_in bytes >>= inputs_on ring
 
 -- from the names on: the ring fetched and read, then the schedule
 abbrev pub inputs_from : Result (List ℕ) FetchError → Result (List ℕ) FetchError → Result Inputs Stop

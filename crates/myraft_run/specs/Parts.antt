@@ -8,13 +8,14 @@ use Rattle.ring_model.specs.Worlds.{WorldState, Whole, world_step, shown}
 use Rattle.ring_model.specs.Runs.{is_known}
 use Rattle.ring_model.specs.declared.worlds.Event.{Event}
 use Rattle.ring_model.specs.declared.worlds.World.{World}
-use Rattle.myraft_run.specs.declared.reading.Inputs.{Inputs}
+use Rattle.myraft_run.specs.declared.inputs.Inputs.{Inputs}
 use Rattle.myraft_run.specs.declared.words.Names.{Names}
 use Rattle.myraft_run.specs.declared.stops.File.{File}
 use Rattle.myraft_run.specs.declared.stops.File.TheVariants as file
 use Rattle.myraft_run.specs.declared.stops.Stop.{Stop}
 use Rattle.myraft_run.specs.declared.stops.Stop.TheVariants as stop
 use Rattle.myraft_run.specs.Words.{names_of}
+use Rattle.myraft_run.specs.Stops.{status_of}
 use Rattle.myraft_run.specs.Inputs.{◌>>=◌, Gives, GivesOne, got, inputs_from, inputs_of, inputs_with, ring_limit, schedule_limit}
 use Rattle.myraft_run.specs.Spans.{ShelfSpan, SinkSpan}
 use Rattle.myraft_run.specs.Command.{Answered, ComesTo}
@@ -60,6 +61,11 @@ Wrote text out (Ok done) = IfSome out.old (λ taken. out.new ≡ Some (taken ++ 
 Wrote text out (Err stop.WriteFault) = Rose out.before out.after × IfSome out.old (λ taken. TakesFront taken text out.new)
 Wrote text out (Err stop.Memory) = IfSome out.old (λ taken. TakesFront taken text out.new)
 Wrote text out (Err s) = ⊥
+
+-- the status of what came of printing
+abbrev pub print_status : Result (Unit {0}) Stop → ℕ
+print_status (Ok done) = 0
+print_status (Err s) = status_of s
 
 -- ---- one event
 -- what the answer says of an event on a world, and of the world after it

@@ -6,7 +6,7 @@ use Rattle.ring_model.specs.Worlds.{Whole, shown}
 use Rattle.ring_model.specs.Runs.{IsRun, Move, is_known, world}
 use Rattle.ring_model.specs.declared.worlds.Event.{Event}
 use Rattle.report_text.specs.Report.{report}
-use Rattle.myraft_run.specs.declared.reading.Inputs.{Inputs}
+use Rattle.myraft_run.specs.declared.inputs.Inputs.{Inputs}
 use Rattle.myraft_run.specs.declared.stops.Stop.{Stop}
 use Rattle.myraft_run.specs.declared.stops.Stop.TheVariants as stop
 

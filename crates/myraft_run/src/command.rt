@@ -1,6 +1,6 @@
-ghost use Rattle.std.specs.Prelude.{◌≡◌, ◌≢◌, ◌⊎◌, map, string_bytes};
-ghost use Rattle.myraft_run.specs.Command.{IsExact, IsReplayable, Printed, Stopped};
-ghost use Rattle.myraft_run.specs.Parts.{Works, Wrote};
+ghost use Rattle.std.specs.Prelude.{◌≡◌, ◌≢◌, ◌⊎◌, IfErr, IfOk, map, string_bytes};
+ghost use Rattle.myraft_run.specs.Command.{IsCause, IsExact, IsReplayable, Printed, Stopped};
+ghost use Rattle.myraft_run.specs.Parts.{Works, Wrote, print_status};
 ghost use Rattle.myraft_run.specs.Spans.{ShelfIsSteady, SinkIsSteady, shelf_span, sink_span};
 
 use crate::lines::tell;
@@ -31,6 +31,25 @@ fn write<O: Sink>(out: &mut O, text: &[u8]) -> Result<(), Stop>
     }
 }
 
+/// Puts the report to the output, or says why the program stops.
+fn print<H: Shelf, O: Sink>(
+    alloc: Global,
+    words: &[String],
+    shelf: &mut H,
+    out: &mut O,
+) -> Result<(), Stop>
+    ensures printed { IfOk result (λ done. Printed (map string_bytes words.now) (shelf_span H.files H.faults shelf.old shelf.new) (sink_span O.taken O.faults out.old out.new)) }
+    ensures cause { IfErr result (λ stop. IsCause (map string_bytes words.now) (shelf_span H.files H.faults shelf.old shelf.new) (sink_span O.taken O.faults out.old out.new) stop) }
+    ensures exact { IsExact (map string_bytes words.now) (shelf_span H.files H.faults shelf.old shelf.new) (sink_span O.taken O.faults out.old out.new) (print_status result) }
+{
+    law_safe();
+    law_rows();
+    law_sound();
+    law_lawful();
+    let text = make_report(alloc, words, shelf)?;
+    write(out, text.as_slice())
+}
+
 /// The program: `words` are those after its own name, names of files are looked up on the shelf, the
 /// report goes to `out`, and the line of a status other than 0 to `err`.
 pub fn run<H: Shelf, O: Sink, E: Sink>(
@@ -46,18 +65,8 @@ pub fn run<H: Shelf, O: Sink, E: Sink>(
     ensures exact { IsExact (map string_bytes words.now.items) (shelf_span H.files H.faults shelf.old shelf.new) (sink_span O.taken O.faults out.old out.new) result.0 }
     ensures complete { IsReplayable (map string_bytes words.now.items) (H.files shelf.old) → ShelfIsSteady (shelf_span H.files H.faults shelf.old shelf.new) → SinkIsSteady (sink_span O.taken O.faults out.old out.new) → (result.0 ≡ 0) ⊎ (result.0 ≡ 13) }
 {
-    law_safe();
-    law_rows();
-    law_sound();
-    law_lawful();
-    match make_report(alloc, words.as_slice(), shelf) {
-        Ok(text) => match write(out, text.as_slice()) {
-            Ok(()) => Status(0),
-            Err(stop) => {
-                tell(err, words.as_slice(), &stop);
-                status_of(&stop)
-            }
-        },
+    match print(alloc, words.as_slice(), shelf, out) {
+        Ok(()) => Status(0),
         Err(stop) => {
             tell(err, words.as_slice(), &stop);
             status_of(&stop)

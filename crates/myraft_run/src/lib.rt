@@ -8,6 +8,7 @@
 
 mod command;
 mod fetching;
+mod inputs;
 mod lines;
 mod reading;
 mod replaying;

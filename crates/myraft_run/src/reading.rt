@@ -3,11 +3,12 @@ ghost use Rattle.std.specs.List.{list_any};
 ghost use Rattle.ring_file.specs.Documents.{ring_of};
 ghost use Rattle.schedule_text.specs.Schedules.{events_of};
 ghost use Rattle.myraft_run.specs.Inputs as spec;
-ghost use Rattle.myraft_run.specs.Inputs.{◌>>=◌, Gives};
+ghost use Rattle.myraft_run.specs.Inputs.{Gives};
 ghost use Rattle.myraft_run.specs.Parts.{Finds, FindsFromNames, FindsFromRing};
 ghost use Rattle.myraft_run.specs.Spans.{shelf_span};
 
 use crate::fetching::fetch;
+use crate::inputs::Inputs;
 use crate::stops::{File, Stop};
 use crate::words::{Names, names_of};
 use edge_traits::Shelf;
@@ -16,13 +17,6 @@ use ring_model::Event;
 use ring_types::{List, RING_FILE_BYTES, Ring, SCHEDULE_BYTES, Text};
 use schedule_text::{ScheduleError, read_schedule};
 use std::alloc::Global;
-
-/// What is to be run: a ring, and the events of a schedule.
-#[derive(Drop)]
-pub(crate) struct Inputs {
-    pub(crate) ring: Ring,
-    pub(crate) events: List<Event>,
-}
 
 /// The ring of a ring file.
 fn ring_from(alloc: Global, bytes: &[u8]) -> Result<Ring, Stop>
@@ -63,7 +57,7 @@ fn built_events(events: List<Event>) -> Result<List<Event>, Stop>
 
 /// The events of a schedule, read whole.
 fn all_events(alloc: Global, bytes: &[u8]) -> Result<List<Event>, Stop>
-    ensures { Gives (spec.events_or_line (events_of bytes.now) >>= spec.built_events) result }
+    ensures { Gives (spec.events_in bytes.now) result }
 {
     let events = events_from(alloc, bytes)?;
     built_events(events)
