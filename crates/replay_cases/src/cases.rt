@@ -7,7 +7,7 @@ use std::alloc::Global;
 use std::io;
 
 /// The most bytes of a file that a case compares with.
-const LIMIT: u64 = 1048576;
+const LIMIT: u64 = 1 << 20;
 
 /// A case: the folder of its name, and the ring that it shares with others.
 #[derive(Clone, Copy)]
