@@ -46,8 +46,8 @@ pub fn law_possible()
     ensures { EveryPlanIsPossible }
 {}
 
-/// In the world after any run each message is well formed, but that the groups of an Append that a
-/// proxy built may have more bytes in sum.
+/// In the world after any run each message is well formed, but that the groups of an Append may have
+/// any sum of bytes, since a proxy does not count them.
 pub fn law_messages()
     ensures { EveryMessageIsNearlyWellFormed }
 {}
