@@ -71,12 +71,6 @@ stands ring me log s led learner none off m = record {
 pub demoted_fits : (ring : Layout) (me : ℕ) (log : List Entry) (s : Soft) → SoftFits ring me log (demoted s)
 demoted_fits ring me log s = stands ring me log (demoted s) refl (λ is. refl) refl refl tt
 
--- a follower's facts do not look at its log
-pub follows_on : (ring : Layout) (me : ℕ) (log other : List Entry) (s o : Soft) → SoftFits ring me log s → s.role ≡ Follower → o.role ≡ s.role → o.pending ≡ s.pending → o.transfer ≡ s.transfer → o.mock ≡ s.mock → SoftFits ring me other o
-follows_on ring me log other s o x is role pending off m =
-    let a = x.alone (ap is_leader is) in
-    stands ring me other o (ap is_leader (role ∙ is)) (λ v. role ∙ is) (pending ∙ a.0) (off ∙ a.1) (subst (MockFits ring me) (sym m) x.mock)
-
 -- ---- pending writes
 rises_filter : (q : Pending → Bool) (ps : List Pending) → Rises ps → Rises (filter q ps)
 rises_filter q [] r = tt

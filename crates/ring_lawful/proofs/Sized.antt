@@ -3,7 +3,7 @@ use Rattle.std.proofs.Common.{◌≡◌, ℕ, ◌+◌, ◌-◌, ◌^◌, ◌<◌
 use Rattle.std.proofs.lemmas.Bool.Decides.{nat_tests}
 use Rattle.std.proofs.lemmas.List.Recursion.{is_count_by}
 use Rattle.std.specs.Prelude.{filter, map, nat_le, nat_lt}
-use Rattle.std.specs.List.{Contains, list_all}
+use Rattle.std.specs.List.{list_all}
 use Rattle.std.specs.List.Sorted.{IsStrictlyIncreasing}
 use Rattle.ring_types.specs.declared.entries.Entry.{Entry}
 use Rattle.ring_types.specs.declared.entries.Pair.{Pair}
@@ -275,8 +275,3 @@ AllFit ring (m ∷ ms) = BodyFits ring m.body × AllFit ring ms
 pub fit_join : (ring : Layout) (a b : List Message) → AllFit ring a → AllFit ring b → AllFit ring (a ++ b)
 fit_join ring [] b x y = y
 fit_join ring (m ∷ a) b x y = (x.0, fit_join ring a b x.1 y)
-
-pub fit_each : (ring : Layout) (ms : List Message) (m : Message) → AllFit ring ms → Contains ms m → BodyFits ring m.body
-fit_each ring [] m x c = absurd (omega (arith, c.1))
-fit_each ring (y ∷ ms) m x (zero, lt, is) = subst (λ (w : Message). BodyFits ring w.body) (let z : y ≡ m = cc in z) x.0
-fit_each ring (y ∷ ms) m x (suc k, lt, is) = fit_each ring ms m x.1 (k, omega arith, is)
