@@ -1,7 +1,9 @@
 -- Which keys each table of the document has, which it must have, and which fault of its keys is named.
-use Rattle.std.specs.Prelude.{ℕ, Bool, List, [], ◌∷◌, ◌++◌, codes, bytes_eq, if◌then◌else◌, Option, Some, None, Result, Ok, Err, ⊤}
+use Rattle.std.specs.Prelude.{◌≡◌, ◌⊎◌, ℕ, Bool, true, false, List, [], ◌∷◌, ◌++◌, codes, bytes_eq, if◌then◌else◌, IsSome, Option, Some, None, Result, Ok, Err, ⊤}
 use Rattle.std.specs.List.{list_any}
-use Rattle.toml.specs.Data.{Data, Members, no_members, member, get_member}
+use Rattle.std.specs.Cmp.Lexicographic.{slice_cmp}
+use Rattle.std.specs.Ordering.{is_lt, nat_cmp}
+use Rattle.toml.specs.Data.{Data, Members, no_members, member, get_member, members_are_sorted}
 use Rattle.ring_file.specs.Faults.{◌>>=◌, place}
 use Rattle.ring_file.specs.declared.faults.RingError.{RingError}
 use Rattle.ring_file.specs.declared.faults.RingError.TheVariants as fault
@@ -25,11 +27,19 @@ further_keys (within.Table number) = []
 abbrev pub is_key : Within → List ℕ → Bool
 is_key table key = list_any (bytes_eq key) (needed_keys table ++ further_keys table)
 
--- The first unknown key is also the least by bytes: the members of a parsed table ascend, which the toml crate
--- states as `members_are_sorted` in its specs/Data.
+-- the first key of the table that none of its kind has
 abbrev pub first_unknown : Within → Members → Option (List ℕ)
 first_unknown table no_members = None
 first_unknown table (member key value rest) = if is_key table key then first_unknown table rest else Some key
+
+-- the key stands in the table, and no table of its kind has it
+abbrev pub IsUnknown : Within → Members → List ℕ → Type 0
+IsUnknown table ms key = IsSome (get_member key ms) × (is_key table key ≡ false)
+
+-- the unknown key that is named is the least by its bytes, where the keys ascend (those of a `BTreeMap` do)
+abbrev pub LeastIsNamed : Type 0
+LeastIsNamed = (table : Within) (ms : Members) (key other : List ℕ) → members_are_sorted ms ≡ true → first_unknown table ms ≡ Some key → IsUnknown table ms other
+    → (key ≡ other) ⊎ (is_lt (slice_cmp nat_cmp key other) ≡ true)
 
 -- no key of the table is unknown
 abbrev pub known_but : Within → Option (List ℕ) → Result ⊤ RingError

@@ -2,7 +2,7 @@ ghost use Rattle.std.specs.Prelude.{◌≡◌, [], ◌∷◌, option_map, option
 ghost use Rattle.toml.specs.Data.{get_member};
 ghost use Rattle.toml.specs.View.{view, table_view};
 ghost use Rattle.ring_file.specs.Faults.{Gives};
-ghost use Rattle.ring_file.specs.Keys.{is_key, first_unknown, all_known, needed_keys, needs, needs_all, keys_fit};
+ghost use Rattle.ring_file.specs.Keys.{LeastIsNamed, is_key, first_unknown, all_known, needed_keys, needs, needs_all, keys_fit};
 ghost use Rattle.ring_file.specs.declared.faults.Within.TheVariants as kind;
 
 use crate::faults::{RingError, Within, place};
@@ -45,6 +45,11 @@ fn is_node_key(key: &str) -> bool
 {
     key == "id" || key == "region" || key == "kind" || key == "uuid" || key == "address"
 }
+
+/// Of the keys that no table of its kind has, the one that is named is the least by its bytes.
+pub fn law_least_unknown()
+    ensures { LeastIsNamed }
+{}
 
 /// The key that comes first in the table among those that no such table has.
 fn first_unknown<'a>(within: Within, table: &'a Table) -> Option<&'a str>

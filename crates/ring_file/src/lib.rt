@@ -14,4 +14,5 @@ mod tests;
 mod values;
 
 pub use faults::RingError;
+pub use keys::law_least_unknown;
 pub use reading::read_ring;
