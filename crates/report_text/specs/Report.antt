@@ -1,9 +1,9 @@
 -- The report of a world: its lines, each ended by a line feed.
-use Rattle.std.specs.Prelude.{ℕ, List, [], ◌∷◌, ◌++◌, length, take, if◌then◌else◌, None, Some, codes}
+use Rattle.std.specs.Prelude.{ℕ, List, [], ◌∷◌, ◌++◌, ◌+◌, length, take, if◌then◌else◌, None, Some, codes}
 use Rattle.std.specs.List.{flat_map}
 use Rattle.ring_types.specs.Gtids.{gtids}
 use Rattle.ring_types.specs.Rings.{Layout, runs_engine}
-use Rattle.ring_types.specs.Rows.{Rows, Tables, rows}
+use Rattle.ring_types.specs.Rows.{Rows, Tables, rows, rows_at}
 use Rattle.ring_types.specs.declared.values.Value.{Value}
 use Rattle.ring_types.specs.declared.entries.Entry.{Entry}
 use Rattle.ring_types.specs.declared.entries.Vote.{Vote}
@@ -75,11 +75,13 @@ row_line row = codes "row" ++ flat_map after_space row ++ line_end
 unfoldable pub table_text : Table → Rows → List ℕ
 table_text t rows = codes "table " ++ t.name ++ field (codes " ") (length rows) ++ line_end ++ flat_map row_line rows
 
--- each declared table with its rows
+-- declared tables with their rows, the first of them at this place
+abbrev pub tables_from : ℕ → List Table → Tables → List ℕ
+tables_from place [] tables = []
+tables_from place (t ∷ declared) tables = table_text t (rows_at tables place) ++ tables_from (place + 1) declared tables
+
 abbrev pub tables_text : List Table → Tables → List ℕ
-tables_text [] tables = []
-tables_text (t ∷ declared) [] = []
-tables_text (t ∷ declared) (rows ∷ others) = table_text t rows ++ tables_text declared others
+tables_text declared tables = tables_from 0 declared tables
 
 -- the tables as the applied entries make them
 unfoldable pub applied_tables : Schema → Durable → List ℕ

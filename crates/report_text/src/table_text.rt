@@ -1,5 +1,6 @@
-ghost use Rattle.std.specs.Prelude.{◌≡◌, ◌++◌, OnOk};
+ghost use Rattle.std.specs.Prelude.{◌≡◌, ◌+◌, ◌^◌, ◌<◌, ◌++◌, OnOk, length};
 ghost use Rattle.std.specs.List.{flat_map};
+ghost use Rattle.ring_types.specs.Rows.{rows_at};
 ghost use Rattle.report_text.specs.Report as spec;
 
 use crate::appending::{put, put_field};
@@ -48,18 +49,30 @@ fn put_table(out: &mut Vec<u8>, table: &Table, rows: &[List<Value>]) -> Result<(
     put_row_lines(out, rows)
 }
 
-fn put_tables(out: &mut Vec<u8>, tables: &[Table], rows: &[List<List<Value>>]) -> Result<(), Memory>
-    ensures { OnOk result (out.new.items ≡ out.old.items ++ spec.tables_text tables.now rows.now) }
+fn rows_at(tables: &[List<List<Value>>], place: usize) -> &[List<Value>]
+    ensures { result.now ≡ rows_at tables.now place }
 {
-    match tables {
+    match tables.get(place) {
+        Some(rows) => rows.as_slice(),
+        None => &[],
+    }
+}
+
+fn put_tables(
+    out: &mut Vec<u8>,
+    declared: &[Table],
+    tables: &[List<List<Value>>],
+    place: usize,
+) -> Result<(), Memory>
+    requires { place + length declared.now < 2 ^ 64 }
+    ensures { OnOk result (out.new.items ≡ out.old.items ++ spec.tables_from place declared.now tables.now) }
+{
+    match declared {
         [] => Ok(()),
-        [table, tables @ ..] => match rows {
-            [] => Ok(()),
-            [rows, others @ ..] => {
-                put_table(out, table, rows.as_slice())?;
-                put_tables(out, tables, others)
-            }
-        },
+        [table, others @ ..] => {
+            put_table(out, table, rows_at(tables, place))?;
+            put_tables(out, others, tables, place + 1)
+        }
     }
 }
 
@@ -75,5 +88,5 @@ pub(crate) fn put_applied_tables(
 {
     let applied = durable.log.prefix(durable.applied);
     let tables = rows(alloc, schema, applied)?;
-    put_tables(out, schema.tables.as_slice(), tables.as_slice())
+    put_tables(out, schema.tables.as_slice(), tables.as_slice(), 0)
 }
