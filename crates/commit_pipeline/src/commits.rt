@@ -62,7 +62,7 @@ fn may_commit(
 }
 
 /// The commit count of a leader of this term and log.
-pub fn commit_count(
+pub(crate) fn commit_count(
     alloc: Global,
     ring: &Ring,
     me: NodeId,

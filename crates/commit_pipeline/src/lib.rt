@@ -28,7 +28,7 @@ mod writes;
 
 pub use actions::{all_done, done, has_room, vote_in};
 pub use advances::{advance, follow_actions, own_entry, with_append};
-pub use commits::{commit_count, counts};
+pub use commits::counts;
 pub use refusals::refused;
 pub use roles::{adopt, adopt_term, demoted, is_leader, is_ready, unknowns};
 pub use rotations::rotate;

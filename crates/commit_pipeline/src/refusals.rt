@@ -1,5 +1,5 @@
 //! Why a client's command is refused: each test in the order in which the causes are told.
-ghost use Rattle.std.specs.Prelude.{◌≡◌, ◌-◌, ◌^◌, ◌<◌, ◌∷◌, [], false, None, nat_le, IfOk, length};
+ghost use Rattle.std.specs.Prelude.{◌≡◌, ◌-◌, ◌<◌, ◌∷◌, [], false, None, nat_le, IfOk, length};
 ghost use Rattle.ring_types.specs.Rows as rows;
 ghost use Rattle.ring_model.specs.Replication.{file_limit, file_number};
 ghost use Rattle.ring_model.specs.Writes as spec;
@@ -72,7 +72,7 @@ fn lock_of(alloc: Global, pairs: &[Pair], changes: &[Change]) -> Result<Option<C
 /// Whether the node's server has no next number, or the log has no next position.
 fn is_exhausted(ring: &Ring, me: NodeId, durable: &Durable) -> bool
     ensures value { result ≡ spec.is_exhausted ring.now me durable.now }
-    ensures length { result ≡ false → length durable.now.log < 2 ^ 62 - 1 }
+    ensures length { result ≡ false → length durable.now.log < TERM_END - 1 }
 {
     let log = durable.log.as_slice();
     next_number(ring.server_of(me), log).is_none() || TERM_END - 1 <= log.len() as u64
@@ -112,7 +112,7 @@ fn size_refusal(
     changes: &List<Change>,
 ) -> Result<Option<Cause>, Memory>
     ensures value { IfOk result (λ it. it ≡ spec.size_refusal ring.now me durable.now changes.now) }
-    ensures length { IfOk result (λ it. it ≡ None → length durable.now.log < 2 ^ 62 - 1) }
+    ensures length { IfOk result (λ it. it ≡ None → length durable.now.log < TERM_END - 1) }
 {
     let txn = write_txn(alloc, ring, me, durable, changes)?;
     let bytes = group_size(ring.schema(), &Payload::Txn(txn));
@@ -133,7 +133,7 @@ fn lock_refusal(
     changes: &List<Change>,
 ) -> Result<Option<Cause>, Memory>
     ensures value { IfOk result (λ it. it ≡ spec.lock_refusal ring.now me durable.now changes.now) }
-    ensures length { IfOk result (λ it. it ≡ None → length durable.now.log < 2 ^ 62 - 1) }
+    ensures length { IfOk result (λ it. it ≡ None → length durable.now.log < TERM_END - 1) }
 {
     match lock_of(alloc, durable.prepared.as_slice(), changes.as_slice())? {
         Some(cause) => Ok(Some(cause)),
@@ -151,7 +151,7 @@ fn change_refusal(
 ) -> Result<Option<Cause>, Memory>
     requires { tables.now ≡ spec.committed_rows ring.now durable.now }
     ensures value { IfOk result (λ it. it ≡ spec.change_refusal ring.now me durable.now changes.now) }
-    ensures length { IfOk result (λ it. it ≡ None → length durable.now.log < 2 ^ 62 - 1) }
+    ensures length { IfOk result (λ it. it ≡ None → length durable.now.log < TERM_END - 1) }
 {
     match check(alloc, ring.schema(), tables.as_slice(), changes.as_slice())? {
         Some(refusal) => Ok(Some(Cause::Invalid(refusal))),
@@ -172,7 +172,7 @@ pub(crate) fn write_refusal(
 ) -> Result<Option<Cause>, Memory>
     requires { tables.now ≡ spec.committed_rows ring.now durable.now }
     ensures value { IfOk result (λ it. it ≡ spec.write_refusal ring.now me durable.now soft.now changes.now) }
-    ensures length { IfOk result (λ it. it ≡ None → length durable.now.log < 2 ^ 62 - 1) }
+    ensures length { IfOk result (λ it. it ≡ None → length durable.now.log < TERM_END - 1) }
 {
     if !is_leader(soft.role) {
         return Ok(Some(Cause::NotLeader));
@@ -204,7 +204,7 @@ pub(crate) fn rotate_refusal(
     soft: &Soft,
 ) -> Option<Cause>
     ensures value { result ≡ spec.rotate_refusal ring.now me durable.now soft.now }
-    ensures length { result ≡ None → length durable.now.log < 2 ^ 62 - 1 }
+    ensures length { result ≡ None → length durable.now.log < TERM_END - 1 }
 {
     if !is_leader(soft.role) {
         return Some(Cause::NotLeader);

@@ -77,7 +77,7 @@ fn lead(
 }
 
 /// Whether the grants cover what they and the log make needed.
-pub fn has_won(
+pub(crate) fn has_won(
     alloc: Global,
     ring: &Ring,
     me: NodeId,

@@ -18,7 +18,6 @@ mod standing;
 #[cfg(test)]
 mod tests;
 
-pub use leading::has_won;
 pub use replies::on_reply;
 pub use requests::on_request;
 pub use standing::elect;

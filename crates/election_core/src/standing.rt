@@ -1,5 +1,5 @@
 //! Standing for election: who may, and what a candidate does first.
-ghost use Rattle.std.specs.Prelude.{◌≡◌, ◌-◌, ◌^◌, ◌<◌, ◌∷◌, [], true, IfOk, length};
+ghost use Rattle.std.specs.Prelude.{◌≡◌, ◌-◌, ◌<◌, ◌∷◌, [], true, IfOk, length};
 ghost use Rattle.ring_model.specs.Actions.{all_done};
 ghost use Rattle.ring_model.specs.Steps as steps;
 ghost use Rattle.ring_model.specs.declared.messages.Body.TheVariants as body;
@@ -25,8 +25,8 @@ pub(crate) fn floor_of(durable: &Durable, soft: &Soft) -> u64
 /// length, and has room for its vote.
 fn may_elect(ring: &Ring, me: NodeId, durable: &Durable, soft: &Soft) -> bool
     ensures value { result ≡ spec.may_elect ring.now me durable.now soft.now }
-    ensures term { result ≡ true → durable.now.term < 2 ^ 62 - 1 }
-    ensures length { result ≡ true → length durable.now.log < 2 ^ 62 - 1 }
+    ensures term { result ≡ true → durable.now.term < TERM_END - 1 }
+    ensures length { result ≡ true → length durable.now.log < TERM_END - 1 }
 {
     ring.voter(me)
         && !is_leader(soft.role)
@@ -78,7 +78,7 @@ fn stand_actions(
     durable: &Durable,
     soft: &Soft,
 ) -> Result<List<Action>, Memory>
-    requires { durable.now.term < 2 ^ 62 - 1 }
+    requires { durable.now.term < TERM_END - 1 }
     ensures { IfOk result (λ it. it ≡ spec.stand_actions ring.now me durable.now soft.now) }
 {
     let term = durable.term + 1;
@@ -120,8 +120,8 @@ fn stand(
     durable: &Durable,
     soft: Soft,
 ) -> Result<Step, Memory>
-    requires term { durable.now.term < 2 ^ 62 - 1 }
-    requires length { length durable.now.log < 2 ^ 62 - 1 }
+    requires term { durable.now.term < TERM_END - 1 }
+    requires length { length durable.now.log < TERM_END - 1 }
     ensures { IfOk result (λ it. it ≡ spec.stand ring.now me durable.now soft) }
 {
     let actions = stand_actions(alloc, ring, me, durable, &soft)?;

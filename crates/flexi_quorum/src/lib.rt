@@ -6,7 +6,7 @@
 //! regions in which they are sure to meet ([`zone`]), stand alone in `quorums.rt`, since everything
 //! depends on them. The needed regions are the candidate's own, that of its last entry, and those of
 //! the votes that its voters report of the terms between, followed until nothing new is heard
-//! ([`need`], [`closure`], [`reports`]); [`wins`] asks for a cover of each.
+//! ([`need`]); [`wins`] asks for a cover of each.
 //!
 //! A caller gives the ring and plain lists: numbers of members that acknowledged or voted, and a
 //! [`Grant`](ring_types::Grant) for each voter with the votes that it reports. Each public function
@@ -18,5 +18,5 @@ mod quorums;
 #[cfg(test)]
 mod tests;
 
-pub use needs::{Report, closure, need, reports, votes_between, wins};
+pub use needs::{need, votes_between, wins};
 pub use quorums::{commits, covers, is_listed, zone};

@@ -10,7 +10,7 @@ use std::marker::Model;
 
 /// A voter reports a vote for a candidate of this region.
 #[derive(Clone, Copy)]
-pub struct Report {
+struct Report {
     pub voter: NodeId,
     pub region: RegionId,
 }
@@ -64,7 +64,7 @@ fn with_reports_of(
 }
 
 /// What the granted voters report of terms strictly between `low` and `high`.
-pub fn reports(alloc: Global, low: u64, high: u64, grants: &[Grant]) -> Result<List<Report>, Memory>
+fn reports(alloc: Global, low: u64, high: u64, grants: &[Grant]) -> Result<List<Report>, Memory>
     ensures { IfOk result (λ it. it ≡ spec.reports low high grants.now) }
 {
     let mut told = List::new(alloc);
@@ -146,7 +146,7 @@ fn regions_before(
 
 /// Adds the regions of the reports that are heard and takes these from the pool, until none is
 /// heard, in at most `rounds` rounds.
-pub fn closure(
+fn closure(
     alloc: Global,
     ring: &Ring,
     rounds: usize,

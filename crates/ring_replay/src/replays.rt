@@ -316,7 +316,7 @@ impl Replay {
         if let Some(place) = place_of(ring, id)
             && place < self.world.cursors.len()
         {
-            self.world.cursors.set(place, number);
+            let _ = self.world.cursors.replace(place, number);
         }
     }
 

@@ -5,7 +5,7 @@ use std::alloc::Global;
 use std::marker::Model;
 
 /// The number of a member of the ring. Contracts see the number itself.
-#[derive(Clone, Copy, Debug, PartialEq, Eq, PartialOrd, Ord)]
+#[derive(Clone, Copy, Debug, PartialEq, Eq)]
 pub struct NodeId(pub u32);
 
 impl Model for NodeId {
@@ -19,7 +19,7 @@ impl Model for NodeId {
 }
 
 /// The place of a region in the ring's declaration, counted from 1. Contracts see the number itself.
-#[derive(Clone, Copy, Debug, PartialEq, Eq, PartialOrd, Ord)]
+#[derive(Clone, Copy, Debug, PartialEq, Eq)]
 pub struct RegionId(pub u16);
 
 impl Model for RegionId {
@@ -34,7 +34,7 @@ impl Model for RegionId {
 
 /// The term in which an entry was written and its position in the log, counted from 1 (Raft's term
 /// and index). Opids are ordered by term, then by position.
-#[derive(Clone, Copy, Debug, PartialEq, Eq, PartialOrd, Ord)]
+#[derive(Clone, Copy, Debug, PartialEq, Eq)]
 pub struct Opid {
     pub term: u64,
     pub position: u64,
@@ -60,7 +60,7 @@ pub struct Entry {
 
 /// A place in the binary log files: the file's number, the offset in bytes, and the number of the
 /// transaction within the file, counted from 1.
-#[derive(Clone, Copy, Debug, PartialEq, Eq)]
+#[derive(Clone, Copy)]
 pub struct Place {
     pub file: u32,
     pub at: u64,
@@ -68,7 +68,7 @@ pub struct Place {
 }
 
 /// The place at which the entry of a position begins.
-#[derive(Clone, Copy, Debug, PartialEq, Eq)]
+#[derive(Clone, Copy)]
 pub struct Anchor {
     pub position: u64,
     pub place: Place,
@@ -99,14 +99,14 @@ pub struct Pair {
 
 /// The first change, counted from 1, that writes a key which a prepared transaction writes, and
 /// that transaction's opid.
-#[derive(Clone, Copy, Debug, PartialEq, Eq)]
+#[derive(Clone, Copy)]
 pub struct Conflict {
     pub change: u64,
     pub holder: Opid,
 }
 
 /// How much of each write since the last sync a crash of a memory disk leaves.
-#[derive(Clone, Copy, Debug, PartialEq, Eq)]
+#[derive(Clone, Copy)]
 pub enum Keep {
     Nothing,
     Half,

@@ -124,14 +124,6 @@ impl<T: Drop> List<T> {
         Ok(())
     }
 
-    /// Puts an item in the place of another. Takes no memory.
-    pub fn set(&mut self, at: usize, item: T)
-        requires { at < length self.old }
-        ensures { self.new ≡ slice_set self.old at item }
-    {
-        self.items[at] = item;
-    }
-
     /// Puts an item in the place of another, and gives that one. Takes no memory.
     pub fn replace(&mut self, at: usize, item: T) -> T
         requires { at < length self.old }
@@ -170,9 +162,10 @@ impl<T: Copy> List<T> {
 }
 
 impl<T: Duplicate + Drop> List<T> {
-    /// Puts copies of the items at the end, in order.
+    /// Puts copies of the items at the end, in order. Without memory some of them may stand there.
     pub fn extend_copies(&mut self, alloc: Global, items: &[T]) -> Result<(), Memory>
-        ensures { OnOk result (self.new ≡ self.old ++ items.now) }
+        ensures ok { OnOk result (self.new ≡ self.old ++ items.now) }
+        ensures err { OnErr result (take (length self.old) self.new ≡ self.old) }
     {
         for item in items {
             self.push(item.copy(alloc)?)?;

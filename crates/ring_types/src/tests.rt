@@ -306,7 +306,7 @@ fn takes_and_gives_items(rt: HostRuntime) -> Result<(), Fail> {
     list.extend_from_slice(&[3])?;
     list.append(List::of_one(alloc, 4)?)?;
     list.extend_copies(alloc, &[5, 6])?;
-    list.set(0, 9);
+    assert_eq!(rt; list.replace(0, 9), 1);
     assert_eq!(rt; list.replace(1, 8), 2);
     list.truncate(5);
     assert_eq!(rt; list.as_slice(), [9, 8, 3, 4, 5].as_slice());

@@ -1,4 +1,4 @@
-ghost use Rattle.std.specs.Prelude.{◌≡◌, ◌-◌, ◌^◌, ◌<◌, None, IfOk};
+ghost use Rattle.std.specs.Prelude.{◌≡◌, ◌<◌, None, IfOk};
 ghost use Rattle.ring_model.specs.Transfers as spec;
 
 use commit_pipeline::{idle, is_leader, is_ready, message, refused, stepped};
@@ -20,7 +20,7 @@ fn is_off(transfer: Transfer) -> bool
 #[tactic(auto, unfolding(ring_model::specs::Transfers::transfer_refusal))]
 fn transfer_refusal(ring: &Ring, me: NodeId, soft: &Soft, target: u32) -> Option<Cause>
     ensures value { result ≡ spec.transfer_refusal ring.now me soft.now target }
-    ensures rounds { result ≡ None → soft.now.rounds < 2 ^ 64 - 1 }
+    ensures rounds { result ≡ None → soft.now.rounds < LAST_ROUND }
 {
     if !is_leader(soft.role) {
         return Some(Cause::NotLeader);
@@ -49,7 +49,7 @@ fn begin_round(
     client: u32,
     target: u32,
 ) -> Result<Step, Memory>
-    requires { soft.rounds < 2 ^ 64 - 1 }
+    requires { soft.rounds < LAST_ROUND }
     ensures { IfOk result (λ it. it ≡ spec.begin_round me durable.now soft client target) }
 {
     let round = soft.rounds + 1;

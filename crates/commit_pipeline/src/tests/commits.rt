@@ -1,6 +1,6 @@
 //! How far a leader's commit count goes.
 use super::fixtures::{noop, one, pair, same, soft, spread, three};
-use crate::commit_count;
+use crate::commits::commit_count;
 use ring_model::{Peer, Role, Soft};
 use ring_types::{Entry, List, NodeId, Ring};
 use std::process::Abort;

@@ -3,7 +3,8 @@ use super::fixtures::{
     durable, follower, grant, lone, none, noop, one, pair, same, soft, spread, step, three, vote,
     with, with_grants,
 };
-use crate::{elect, has_won};
+use crate::elect;
+use crate::leading::has_won;
 use ring_model::{Action, Body, Durable, Message, Peer, RequestVote, Role, Soft, Step};
 use ring_types::{Entry, Grant, List, NodeId, Opid, Ring, Vote};
 use std::process::Abort;
