@@ -22,14 +22,18 @@ use Rattle.ring_model.specs.Worlds.{ComeUp, GoDown, Handle, Rest, Task, WorldSta
 use Rattle.ring_model.specs.Writes.{write_entry, write_refusal}
 use Rattle.ring_model.proofs.Invariant.{History, IsBookedLog, IsHistory, IsNode, IsRunning, IsSealed, IsSent, Nothing_yet, Sealed_at}
 use Rattle.ring_model.proofs.Lists.{none_contained}
-use Rattle.ring_model.proofs.Paths.{Adds, Applies, Cuts, Ends, Engine, Extends, Goes_on, Guarded, Leads, Path, Raises, Votes, guarded_books, guarded_keeps, path_cut, path_keeps}
+use Rattle.ring_model.proofs.Moves.{Adds, Applies, Cuts, Engine, Extends, Guarded, Leads, Raises, Votes, guarded_keeps}
+use Rattle.ring_model.proofs.Paths.{Ends, Goes_on, Path, guarded_books, path_cut, path_keeps}
 use Rattle.ring_model.proofs.Turns.{IsWorld}
 use Rattle.ring_model.proofs.Dispatch.{IsGiven, names_other, step_row}
-use Rattle.ring_model.proofs.Events.{OnWay, event_over, first_history, first_holds}
+use Rattle.ring_model.proofs.Carried.{OnWay}
+use Rattle.ring_model.proofs.Events.{event_over}
+use Rattle.ring_model.proofs.FirstWorld.{first_history, first_holds}
 use Rattle.ring_lawful.proofs.Along.{Allowed}
 use Rattle.ring_lawful.proofs.Carry.{IsFit, event_fits, first_fits}
 use Rattle.ring_lawful.proofs.EngineSteps.{EngineRuns}
-use Rattle.ring_lawful.proofs.Growing.{Foreign, InputIsLed, KeptByPlain, MayGrow, step_logs}
+use Rattle.ring_lawful.proofs.Growing.{AppendIsLed, Foreign, InputIsLed, KeptByPlain, MayGrow}
+use Rattle.ring_lawful.proofs.GrowingDispatch.{step_logs}
 use Rattle.ring_lawful.proofs.Parts.{runs_from}
 
 -- the property holds of the book of each led term
@@ -111,14 +115,10 @@ module _ (ring : Layout) (P : List Entry → Type 0) (kept : IsKept ring P) wher
       path_holds m g id (done d s) rest y.history y.node path (all_more h m id P (done d s) rest y.grows.elections a.1) (guarded_holds h m id d s k n move a.0 b)
 
   -- ---- a step, however far it went
-  abbrev AppendLed : History → ℕ → Body → Type 0
-  AppendLed h id (body.Append sent) = Foreign h id sent.term
-  AppendLed h id _ = Unit {0}
-
-  input_led : (h : History) (id : ℕ) (i : Input) → IsHistory ring h → IsGiven h.messages id i → InputIsLed ring h id P kept.plain i
+  input_led : (h : History) (id : ℕ) (i : Input) → IsHistory ring h → IsGiven h.messages id i → InputIsLed ring h id i
   input_led h id (input.Deliver m) k given = λ own. go m.body refl own
     where
-      go : (b : Body) → m.body ≡ b → is_foreign_body ring id m.from b ≡ false → AppendLed h id b
+      go : (b : Body) → m.body ≡ b → is_foreign_body ring id m.from b ≡ false → AppendIsLed h id b
       go (body.Append sent) is own =
           let x = subst (λ (b : Body). IsSent ring h m.from m.to b) is (k.sent m given.0) in
           let s = x.0 in
@@ -175,8 +175,8 @@ module _ (ring : Layout) (P : List Entry → Type 0) (kept : IsKept ring P) wher
   run_books w h [] is k x b = record { history = h; world = k; books = b }
   run_books w h (m ∷ run) is k x b =
       let c = event_over ring w h m k in
-      let books : BooksHold P c.after = λ e in_e. elim (c.books e in_e) [ inl old ↦ subst P (sym old.1) (b e old.0) | inr new ↦ on_way_holds w h (acting w m.event.what) (c.after.book e.term) k x b new ] in
-      run_books (world_step ring w m.event m.completion) c.after run is.2 c.world (event_fits ring w m is.0 x) books
+      let books : BooksHold P c.joined.after = λ e in_e. elim (c.books e in_e) [ inl old ↦ subst P (sym old.1) (b e old.0) | inr new ↦ on_way_holds w h (acting w m.event.what) (c.joined.after.book e.term) k x b new ] in
+      run_books (world_step ring w m.event m.completion) c.joined.after run is.2 c.joined.world (event_fits ring w m is.0 x) books
 
   pub booked : (run : List Move) → IsRing ring → IsRun ring run → Booked (world ring run)
   unfolding world

@@ -1,13 +1,11 @@
 -- In every world of every run each node is fit and each message well formed: the laws of each step, carried along a run by one induction.
-use Rattle.std.proofs.Common.{◌≡◌, ℕ, [], ◌∷◌, ◌∙◌, if◌then◌else◌, Bool, List, None, Option, Some, ap, arith, false, inl, inr, refl, subst, suc, sym, take, true, zero}
+use Rattle.std.proofs.Common.{◌≡◌, ℕ, [], ◌∷◌, ◌∙◌, if◌then◌else◌, Bool, List, None, Option, Some, ap, arith, false, inl, inr, refl, subst, sym, take, true}
 use Rattle.std.proofs.lemmas.Bool.{cases_eq}
 use Rattle.std.proofs.lemmas.Bool.Decides.{nat_tests}
 use Rattle.std.proofs.lemmas.List.Elements.{Contains-append_cases}
 use Rattle.std.specs.List.{Contains}
-use Rattle.ring_types.specs.declared.entries.Opid.{Opid}
 use Rattle.ring_types.specs.Rings.{Layout, is_member}
 use Rattle.ring_types.specs.Rows.{payloads_fit}
-use Rattle.ring_model.specs.declared.effects.Action.TheVariants as action
 use Rattle.ring_model.specs.declared.effects.Say.{Say}
 use Rattle.ring_model.specs.declared.messages.Input.{Input}
 use Rattle.ring_model.specs.declared.messages.Input.TheVariants as input
@@ -18,7 +16,7 @@ use Rattle.ring_model.specs.declared.worlds.Line.{Line}
 use Rattle.ring_model.specs.declared.worlds.Line.TheVariants as line
 use Rattle.ring_model.specs.Actions.{all_done}
 use Rattle.ring_model.specs.Dispatch.{step}
-use Rattle.ring_model.specs.Nodes.{Node, empty_durable, fresh_soft, recover, stray_opids}
+use Rattle.ring_model.specs.Nodes.{Node, empty_durable, fresh_soft, recover}
 use Rattle.ring_model.specs.Runs.{IsRun, IsRunFrom, Move, is_known, is_whole_input, world, world_from}
 use Rattle.ring_model.specs.WellFormed.{IsNearlyWellFormed}
 use Rattle.ring_model.specs.Worlds.{ComeUp, Completion, Cut, GoDown, Handle, Rest, Task, Whole, WorldState, at_node, first_world, given, given_to, handled, line_step, member_turn, message_at, moved, next_given, next_to, passed, restart_actions, skipped, turn, turned, with_node, world_step}
@@ -28,6 +26,8 @@ use Rattle.ring_lawful.specs.EachStep.{IsFitNode, IsFitPart, IsGood}
 use Rattle.ring_lawful.proofs.EachStep.{every_step_is_possible, every_step_keeps_lawful}
 use Rattle.ring_lawful.proofs.Recovery.{empty_sound, partly_sound, recovery_lawful}
 use Rattle.ring_lawful.proofs.StepSends.{every_step_sends_well_formed}
+use Rattle.ring_model.proofs.Restarts.{partly}
+use Rattle.ring_model.proofs.Events.{in_number}
 
 -- in one world: each durable part is fit, each running node too, and each message is well formed but for a proxy's sum of bytes
 pub record IsFit (ring : Layout) (w : WorldState) : Type 0 where
@@ -36,26 +36,12 @@ pub record IsFit (ring : Layout) (w : WorldState) : Type 0 where
   pub messages : (m : Message) → Contains w.messages m → IsNearlyWellFormed ring.schema m
 
 -- ---- what a line gives
-in_number : (ms : List Message) (k : ℕ) (m : Message) → message_at ms k ≡ Some m → Contains ms m
-in_number ms zero m is = absurd cc
-in_number [] (suc k) m is = absurd cc
-in_number (x ∷ ms) (suc zero) m is = (zero, omega arith, cc)
-in_number (x ∷ ms) (suc (suc k)) m is = let y = in_number ms (suc k) m is in (suc y.0, omega (arith, y.1), y.2)
-
 -- an input that a task gives is good
 abbrev IsGoodTask : Layout → Task → Type 0
 IsGoodTask ring (Handle i) = IsGood ring i
 IsGoodTask ring GoDown = Unit {0}
 IsGoodTask ring ComeUp = Unit {0}
 IsGoodTask ring Rest = Unit {0}
-
--- ---- a restart that was cut
-partly_payloads : (ring : Layout) (d : Durable) (n : ℕ) (o : List Opid) → payloads_fit ring.schema d.log ≡ true → payloads_fit ring.schema (all_done d (take n (elim o [ [] ↦ [] | o ∷ opids ↦ action.DropPairs (o ∷ opids) ∷ [] ]))).log ≡ true
-partly_payloads ring d zero [] x = x
-partly_payloads ring d (suc n) [] x = x
-partly_payloads ring d zero (o ∷ opids) x = x
-partly_payloads ring d (suc zero) (o ∷ opids) x = x
-partly_payloads ring d (suc (suc n)) (o ∷ opids) x = x
 
 -- ---- events
 module _ (ring : Layout) where
@@ -112,7 +98,7 @@ module _ (ring : Layout) where
       (λ o so. let is : fresh_soft d ≡ o = cc in subst (λ (z : Soft). IsFitNode ring id (recover d) z) is y) (λ m in_m. absurd (none_contained m in_m))
   turn_fits w id ComeUp (Cut count) g x =
       let d = (w.nodes id).durable in
-      downed_fits w id (all_done d (take count (restart_actions d))) (count ∷ []) x (partly_sound ring id d count (stray_opids d) refl (x.nodes id).0, partly_payloads ring d count (stray_opids d) (x.nodes id).1)
+      downed_fits w id (all_done d (take count (restart_actions d))) (count ∷ []) x (partly_sound ring id d count (x.nodes id).0, partly (λ (e : Durable). payloads_fit ring.schema e.log ≡ true) d (x.nodes id).1 (λ opids is. (x.nodes id).1) count)
   turn_fits w id Rest Whole g x = same_fits w (passed w) refl refl x
   turn_fits w id Rest (Cut count) g x = downed_fits w id (w.nodes id).durable (count ∷ []) x (x.nodes id)
 

@@ -23,9 +23,9 @@ use Rattle.ring_model.specs.Writes.{change_refusal, committed_rows, is_exhausted
 use Rattle.ring_model.proofs.Runs.{safe_logs}
 use Rattle.ring_lawful.specs.Lawful.{EveryLogIsValid, EveryRunChoosesValid}
 use Rattle.ring_lawful.proofs.Books.{IsKept, chosen_holds, logs_hold}
-use Rattle.ring_lawful.proofs.EngineRules.{write_holds, write_is_ready}
+use Rattle.ring_lawful.proofs.EngineOwn.{write_holds, write_is_ready}
 use Rattle.ring_lawful.proofs.EngineSteps.{EngineRuns}
-use Rattle.ring_lawful.proofs.Locks.{none_valid, valid_plain, valid_take, valid_write}
+use Rattle.ring_lawful.proofs.ValidLogs.{none_valid, valid_plain, valid_take, valid_write}
 use Rattle.ring_lawful.proofs.Numbers.{Once, none_once, once_plain, once_take, once_write}
 use Rattle.ring_lawful.proofs.Pairs.{between_all}
 use Rattle.ring_lawful.proofs.EveryRun.{prepared_agrees}

@@ -19,7 +19,7 @@ use Rattle.ring_lawful.proofs.Chains.{Ordered, order_of, ordered_along, ordered_
 use Rattle.ring_lawful.proofs.Engine.{Can, HasPairs}
 use Rattle.ring_lawful.proofs.EngineAppend.{Fits}
 use Rattle.ring_lawful.proofs.EngineDispatch.{step_both}
-use Rattle.ring_lawful.proofs.EngineRules.{Both}
+use Rattle.ring_lawful.proofs.EngineBoth.{Both}
 use Rattle.ring_lawful.proofs.Lawful.{lawful_from}
 use Rattle.ring_lawful.proofs.Leads.{SoftStep}
 use Rattle.ring_lawful.proofs.LeadsRules.{step_soft}
@@ -28,7 +28,7 @@ use Rattle.ring_lawful.proofs.Possible.{Good, along_from, good, possible_all, ta
 use Rattle.ring_lawful.proofs.Prepared.{Engine, IsEmpty, Running, pairs_of, runs_of, tail_along}
 use Rattle.ring_lawful.proofs.Sends.{Tells}
 use Rattle.ring_lawful.proofs.Sized.{May, Sized, sized_one}
-use Rattle.ring_lawful.proofs.SizedRules.{Keeps}
+use Rattle.ring_lawful.proofs.SizedSteps.{Keeps}
 use Rattle.ring_lawful.proofs.Sound.{sound_from}
 use Rattle.ring_lawful.proofs.SteadyAppend.{Near, Steady}
 use Rattle.ring_lawful.proofs.SteadyRules.{step_steady}

@@ -20,12 +20,14 @@ use Rattle.ring_model.specs.Actions.{all_done, done, is_prepared, pair_of}
 use Rattle.ring_model.specs.Nodes.{ArePairsAbove, is_leader}
 use Rattle.ring_model.specs.Replication.{accept, follow_append, kept_position, leads_it, match_append, on_append, outgrows, reply, roll_back, take_in, tear_in, unmatched}
 use Rattle.ring_model.specs.Steps.{demoted, engine_actions, follow_actions, greater_of, idle, prepare_entry, smaller_of, stepped, unknowns}
-use Rattle.ring_model.proofs.Paths.{done_join}
+use Rattle.ring_model.proofs.GreaterOf.{greater_both}
+use Rattle.ring_model.proofs.HeldElections.{done_join}
 use Rattle.ring_lawful.proofs.Along.{Allowed, Along, allowed_join, along_join}
 use Rattle.ring_lawful.proofs.Pairs.{Placed, cut_pairs, placed_take, rolled_pairs, take_short}
 use Rattle.ring_lawful.proofs.Engine.{Can, Clean, HasPairs, above, clean_has}
 use Rattle.ring_lawful.proofs.EngineSteps.{EngineRuns, EngineStep, append_clean, follow_clean, followed_clean, stands_down}
-use Rattle.ring_lawful.proofs.EngineRules.{AllTail, Both, clean_at, idle_both, quiet_both, tail_join, follow_tail}
+use Rattle.ring_lawful.proofs.EngineBoth.{AllTail, Both, clean_at, follow_tail, idle_both, quiet_both, tail_join}
+use Rattle.ring_model.proofs.TakingIn.{take_in_same}
 
 -- what the model's invariant gives of a step: entries in their places, the commit count in the log, and never less log than applied
 pub record Fits (d : Durable) (actions : List Action) (commit : ℕ) : Type 0 where
@@ -97,11 +99,6 @@ cut_then e k kept more x low high placed =
     let clean_f = append_clean b r.0 more clean_b placed in
     record { along = (clean_has e k x, (has_a, (clean_has b r.0 clean_b, clean_has (done b (action.Append more)) r.0 clean_f))); can = (tt, (tt, (tt, tt))); k = r.0; clean = clean_f; applied = refl }
 
-take_in_same : (ring : Layout) (me kept : ℕ) (d e : Durable) (rest : List Entry) → e.log ≡ d.log → take_in ring me e kept rest ≡ take_in ring me d kept rest
-take_in_same ring me kept d e [] is = refl
-take_in_same ring me kept d e (x ∷ rest) is =
-    ap (λ (l : List Entry). if nat_lt kept (length l) then action.Truncate kept ∷ (roll_back ring me kept ++ (action.Append (x ∷ rest) ∷ [])) else action.Append (x ∷ rest) ∷ []) is
-
 taken_clean : (ring : Layout) (me : ℕ) (e : Durable) (kept k : ℕ) (rest : List Entry) (more : List Action) → runs_engine ring me ≡ true → Clean e k → Placed (all_done e (take_in ring me e kept rest)).log
     → ((n : ℕ) → (all_done e (take n (take_in ring me e kept rest ++ more))).applied ≤ length (all_done e (take n (take_in ring me e kept rest ++ more))).log) → Taken e (take_in ring me e kept rest)
 taken_clean ring me e kept k [] more runs x placed cuts = record { along = clean_has e k x; can = tt; k = k; clean = x; applied = refl }
@@ -126,13 +123,6 @@ taken_clean ring me e kept k (y ∷ rest) more runs x placed cuts = go (nat_lt k
         record { along = (clean_has e k x, clean_has (done e (action.Append (y ∷ rest))) k f); can = (tt, tt); k = k; clean = f; applied = refl }
 
 -- ---- the whole rule
-greater_high : (a b : ℕ) → a ≤ greater_of a b
-greater_high a b = go (nat_le a b) refl
-  where
-    go : (c : Bool) → nat_le a b ≡ c → a ≤ greater_of a b
-    go true is = rw is (grind (arith, nat_tests, is))
-    go false is = rw is (omega arith)
-
 -- the node once it follows, after these actions
 record Ready (ring : Layout) (me : ℕ) (d : Durable) (s : Soft) (first : List Action) : Type 0 where
   along : Along HasPairs d first
@@ -162,7 +152,7 @@ accept_engine ring me d s first says sent runs r fits =
     (subst (λ (w : List Action). Placed (all_done e w).log) (sym is) (subst Placed l own.placed))
     (subst (λ (w : List Action). (n : ℕ) → (all_done e (take n (w ++ more))).applied ≤ length (all_done e (take n (w ++ more))).log) (sym is) own.cuts)) in
     let high : c ≤ length f.log = subst (λ (w : List Entry). c ≤ length w) l own.inside in
-    let low : f.applied ≤ c = (let a = t.applied in let b = r.follows in let z = greater_high s.commit (smaller_of sent.commit m) in omega (arith, a, b, z)) in
+    let low : f.applied ≤ c = (let a = t.applied in let b = r.follows in let z = (greater_both s.commit (smaller_of sent.commit m)).0 in omega (arith, a, b, z)) in
     let y = follow_clean ring me f c t.k runs t.clean low high in
     let j : all_done d (first ++ (acts ++ more)) ≡ g = done_join d first (acts ++ more) ∙ done_join e acts more in
     record {

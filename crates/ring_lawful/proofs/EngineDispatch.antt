@@ -28,7 +28,9 @@ use Rattle.ring_model.specs.Replication.{beat, beat_to, quieter, relay}
 use Rattle.ring_model.specs.Steps.{idle, message, stepped}
 use Rattle.ring_model.specs.Transfers.{ask_transfer, begin_mock, begin_round, cancel, count_answer, is_off, is_old_round, mock_hears, on_mock_reply, on_mock_request, on_mock_result, on_mock_start, on_timeout, passes, result_heard, transfer_hears, transfer_refusal, with_answer}
 use Rattle.ring_model.specs.Writes.{refused}
-use Rattle.ring_lawful.proofs.EngineRules.{Both, answered_both, elect_both, idle_both, quiet_both, reply_both, request_both, rotate_both, write_both}
+use Rattle.ring_lawful.proofs.EngineBoth.{Both, idle_both, quiet_both}
+use Rattle.ring_lawful.proofs.EngineElections.{elect_both, reply_both, request_both}
+use Rattle.ring_lawful.proofs.EngineOwn.{answered_both, rotate_both, write_both}
 use Rattle.ring_lawful.proofs.EngineAppend.{Fits, append_both}
 
 -- ---- rules without actions

@@ -18,8 +18,9 @@ use Rattle.ring_model.specs.declared.nodes.Soft.{Soft}
 use Rattle.ring_model.specs.Actions.{all_done, done, entries_between, pairs_in}
 use Rattle.ring_model.specs.Nodes.{is_leader, is_ready, kept_pairs}
 use Rattle.ring_model.specs.Steps.{advance, commit_count, engine_actions, follow_actions, greatest, may_commit, stepped, waiting}
+use Rattle.ring_model.proofs.OwnEntry.{length_push}
 use Rattle.ring_model.proofs.Lists.{both_true}
-use Rattle.ring_model.proofs.Paths.{done_join}
+use Rattle.ring_model.proofs.HeldElections.{done_join}
 use Rattle.ring_lawful.proofs.Along.{Allowed, Along, allowed_join, along_join}
 use Rattle.ring_lawful.proofs.Pairs.{Placed, between_more, between_push, none_between, opid_beyond, pairs_join, placed_push}
 use Rattle.ring_lawful.proofs.Engine.{Can, Clean, Follows, HasPairs, clean_has, follows}
@@ -138,10 +139,6 @@ append_clean d k es x placed = record {
     length_more : (xs ys : List Entry) → length xs ≤ length (xs ++ ys)
     length_more [] ys = omega arith
     length_more (z ∷ xs) ys = let y = length_more xs ys in omega (arith, y)
-
-length_push : (xs : List Entry) (x : Entry) → length (xs ++ x ∷ []) ≡ suc (length xs)
-length_push [] x = refl
-length_push (y ∷ xs) x = ap suc (length_push xs x)
 
 -- an own entry with no transaction, where the log's every transaction is prepared
 pub push_clean : (d : Durable) (x : Entry) → Clean d (length d.log) → x.opid.position ≡ suc (length d.log) → pairs_in (x ∷ []) ≡ [] → Clean (done d (action.Append (x ∷ []))) (length (done d (action.Append (x ∷ []))).log)

@@ -12,7 +12,7 @@ use Rattle.ring_model.specs.Nodes.{IsLawful, IsPendingIn, IsSound, PeerFits, is_
 use Rattle.ring_model.proofs.Lists.{all_of}
 use Rattle.ring_lawful.proofs.Keeps.{KeepsCounts, RunsEngine}
 use Rattle.ring_lawful.proofs.Leads.{SoftFits, increasing}
-use Rattle.ring_lawful.proofs.SizedRules.{IsShort}
+use Rattle.ring_lawful.proofs.SizedSteps.{IsShort}
 
 all_from : {X : Type 0} (P : X → Type 0) (xs : List X) → ((x : X) → Contains xs x → P x) → All P xs
 all_from P xs each k d lt = each (slice_index_or xs k d) (Contains-get_or xs k d lt)

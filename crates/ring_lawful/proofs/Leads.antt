@@ -25,8 +25,9 @@ use Rattle.ring_model.specs.Nodes.{IsPendingIn, MockFits, TransferFits, is_leade
 use Rattle.ring_model.specs.Replication.{heard_among, heard_from, quieter}
 use Rattle.ring_model.specs.Elections.{first_peers, has_won, lead, lead_or_ask, leading}
 use Rattle.ring_model.specs.Steps.{advance, commit_count, demoted, follow_actions, is_settled, may_commit, own_entry, smaller_of, stepped, waiting}
+use Rattle.ring_model.proofs.OwnEntry.{length_push}
 use Rattle.ring_model.proofs.Lists.{both_true, filter_of, filter_true, none_contained}
-use Rattle.ring_model.proofs.Paths.{done_join}
+use Rattle.ring_model.proofs.HeldElections.{done_join}
 use Rattle.ring_lawful.proofs.EngineAppend.{follow_log}
 use Rattle.ring_lawful.proofs.EngineSteps.{greatest_bounds}
 use Rattle.ring_lawful.proofs.Sized.{all_filter, all_join}
@@ -182,10 +183,6 @@ quieter_silent [] = refl
 quieter_silent (p ∷ peers) = let y = quieter_low p.silent in rw y (quieter_silent peers)
 
 -- ---- winning
-length_push : (xs : List Entry) (x : Entry) → length (xs ++ x ∷ []) ≡ suc (length xs)
-length_push [] x = refl
-length_push (y ∷ xs) x = ap suc (length_push xs x)
-
 pub ask_soft : (ring : Layout) (me : ℕ) (d : Durable) (s : Soft) (first : List Action) (says : List Say) (grants : List Grant) (asks : List Message) → votes ring me ≡ true → s.pending ≡ [] → s.transfer ≡ transfer.Off → MockFits ring me s.mock
     → s.commit ≤ length (all_done d first).log → SoftStep ring me d (lead_or_ask ring me d s first says grants asks)
 unfolding lead_or_ask

@@ -1,7 +1,7 @@
--- A transaction that the tables accept is accepted after other transactions too, if none of these writes a key that it names: rows of different keys are independent.
-use Rattle.std.proofs.Common.{◌≡◌, ℕ, ◌<◌, ◌==◌, ◌||◌, [], ◌∷◌, ◌++◌, ◌∙◌, if◌then◌else◌, cond, Bool, List, None, Option, Some, ap, arith, drop, false, length, refl, subst, suc, sym, take, true, zero}
-use Rattle.std.proofs.lemmas.Bool.Decides.{Decides-int_eq, nat_tests}
-use Rattle.std.proofs.lemmas.List.{length-set, take-append-drop}
+-- Tables that have the same of the keys that a change names accept or refuse it alike, and a change of another key leaves what they have of this one.
+use Rattle.std.proofs.Common.{◌≡◌, ℕ, ◌<◌, ◌==◌, ◌||◌, [], ◌∷◌, ◌∙◌, if◌then◌else◌, cond, Bool, List, None, Option, Some, ap, arith, false, length, refl, subst, suc, sym, true, zero}
+use Rattle.std.proofs.lemmas.Bool.Decides.{nat_tests}
+use Rattle.std.proofs.lemmas.List.{length-set}
 use Rattle.std.proofs.lemmas.List.Sums.{passes_at_first}
 use Rattle.std.proofs.lemmas.Slice.Eq.{bytes_eq-Decides}
 use Rattle.std.specs.Prelude.{bytes_eq, get_or, is_none, nat_lt, position, slice_get, slice_set}
@@ -16,120 +16,19 @@ use Rattle.ring_types.specs.declared.values.Change.{Change}
 use Rattle.ring_types.specs.declared.values.Change.TheVariants.{Delete, Insert, Update}
 use Rattle.ring_types.specs.declared.values.RowRefusal.{RowRefusal}
 use Rattle.ring_types.specs.declared.values.RowRefusal.TheVariants.{BadRow, NoTable}
-use Rattle.ring_types.specs.declared.values.Txn.{Txn}
 use Rattle.ring_types.specs.declared.values.Value.{Value}
-use Rattle.ring_types.specs.declared.values.Value.TheVariants as value
-use Rattle.ring_types.specs.Rows.{Rows, Tables, after_payload, all_changed, applied, change_key, changed, check, comes_before, empty_tables, fits_table, has_key, is_valid, is_valid_from, key_of, key_refusal, payload_is_accepted, place_in, placed, refusal_in, refusal_of, rows, rows_after, rows_at, rows_from, same_value, table_name, with_row, without_key}
+use Rattle.ring_types.specs.Rows.{Rows, Tables, after_payload, all_changed, applied, change_key, changed, check, fits_table, has_key, key_refusal, place_in, refusal_in, refusal_of, rows_after, rows_at, rows_from, same_value, table_name}
 use Rattle.ring_model.specs.Actions.{is_held, pairs_in, same_key, writes_key}
-use Rattle.ring_model.proofs.Lists.{both_true}
-
--- ---- keys
-same_true : (a b : Value) → same_value a b ≡ true → a ≡ b
-same_true value.Null value.Null is = refl
-same_true value.Null (value.Int b) is = absurd cc
-same_true value.Null (value.Text b) is = absurd cc
-same_true (value.Int a) value.Null is = absurd cc
-same_true (value.Int a) (value.Int b) is = ap value.Int ((Decides-int_eq a b).0 is)
-same_true (value.Int a) (value.Text b) is = absurd cc
-same_true (value.Text a) value.Null is = absurd cc
-same_true (value.Text a) (value.Int b) is = absurd cc
-same_true (value.Text a) (value.Text b) is = ap value.Text ((bytes_eq-Decides a b).0 is)
-
-same_self : (a : Value) → same_value a a ≡ true
-same_self value.Null = refl
-same_self (value.Int a) = (Decides-int_eq a a).1 refl
-same_self (value.Text a) = (bytes_eq-Decides a a).1 refl
-
-same_turned : (a b : Value) → same_value a b ≡ false → same_value b a ≡ false
-same_turned a b is = go (same_value b a) refl
-  where
-    go : (t : Bool) → same_value b a ≡ t → same_value b a ≡ false
-    go false x = x
-    go true x = absurd (let z : b ≡ a = same_true b a x in let y : same_value a b ≡ true = subst (λ (v : Value). same_value a v ≡ true) (sym z) (same_self a) in let q : true ≡ false = sym y ∙ is in cc)
-
--- ---- the keys of a table after a change
-key_gone : (rs : Rows) (key : Value) → has_key (without_key rs key) key ≡ false
-key_gone [] key = refl
-key_gone (row ∷ rs) key = go (same_value (key_of row) key) refl (key_gone rs key)
-  where
-    go : (b : Bool) → same_value (key_of row) key ≡ b → has_key (without_key rs key) key ≡ false → has_key (without_key (row ∷ rs) key) key ≡ false
-    go true is rest = rw is rest
-    go false is rest = rw is (rw is rest)
-
-key_left : (rs : Rows) (k key : Value) → same_value k key ≡ false → has_key (without_key rs k) key ≡ has_key rs key
-key_left [] k key other = refl
-key_left (row ∷ rs) k key other = go (same_value (key_of row) k) refl (key_left rs k key other)
-  where
-    go : (b : Bool) → same_value (key_of row) k ≡ b → has_key (without_key rs k) key ≡ has_key rs key → has_key (without_key (row ∷ rs) k) key ≡ has_key (row ∷ rs) key
-    go true is rest =
-        let z : key_of row ≡ k = same_true (key_of row) k is in
-        let y : same_value (key_of row) key ≡ false = subst (λ (v : Value). same_value v key ≡ false) (sym z) other in
-        rw is (rw y rest)
-    go false is rest = rw is (ap (λ (b : Bool). same_value (key_of row) key || b) rest)
-
-key_placed : (rs : Rows) (row : List Value) (key : Value) → has_key (placed rs row) key ≡ (same_value (key_of row) key || has_key rs key)
-key_placed [] row key = refl
-key_placed (r ∷ rs) row key = go (comes_before (key_of row) (key_of r)) refl (key_placed rs row key)
-  where
-    turn : (a b c : Bool) → (a || (b || c)) ≡ (b || (a || c))
-    turn true true c = refl
-    turn true false c = refl
-    turn false true c = refl
-    turn false false c = refl
-
-    go : (b : Bool) → comes_before (key_of row) (key_of r) ≡ b → has_key (placed rs row) key ≡ (same_value (key_of row) key || has_key rs key)
-        → has_key (placed (r ∷ rs) row) key ≡ (same_value (key_of row) key || has_key (r ∷ rs) key)
-    go true is rest = rw is refl
-    go false is rest = rw is (ap (λ (b : Bool). same_value (key_of r) key || b) rest ∙ turn (same_value (key_of r) key) (same_value (key_of row) key) (has_key rs key))
-
--- the change leaves a row of its key
-abbrev leaves_row : Change → Bool
-leaves_row (Insert name row) = true
-leaves_row (Update name row) = true
-leaves_row (Delete name key) = false
-
-row_here : (rs : Rows) (row : List Value) (key : Value) → same_value (key_of row) key ≡ true → has_key (with_row rs row) key ≡ true
-row_here rs row key is = key_placed (without_key rs (key_of row)) row key ∙ rw is refl
-
-row_there : (rs : Rows) (row : List Value) (key : Value) → same_value (key_of row) key ≡ false → has_key (with_row rs row) key ≡ has_key rs key
-row_there rs row key is = key_placed (without_key rs (key_of row)) row key ∙ rw is (key_left rs (key_of row) key is)
-
-after_here : (rs : Rows) (c : Change) (key : Value) → same_value (change_key c) key ≡ true → has_key (rows_after rs c) key ≡ leaves_row c
-after_here rs (Insert name row) key is = row_here rs row key is
-after_here rs (Update name row) key is = row_here rs row key is
-after_here rs (Delete name k) key is = subst (λ (v : Value). has_key (without_key rs k) v ≡ false) (same_true k key is) (key_gone rs k)
-
-after_there : (rs : Rows) (c : Change) (key : Value) → same_value (change_key c) key ≡ false → has_key (rows_after rs c) key ≡ has_key rs key
-after_there rs (Insert name row) key is = row_there rs row key is
-after_there rs (Update name row) key is = row_there rs row key is
-after_there rs (Delete name k) key is = key_left rs k key is
-
--- ---- the tables after one of them was set
-set_here : (tables : Tables) (p : ℕ) (r : Rows) → p < length tables → rows_at (slice_set tables p r) p ≡ r
-set_here [] p r lt = absurd (omega (arith, lt))
-set_here (t ∷ tables) zero r lt = refl
-set_here (t ∷ tables) (suc p) r lt = set_here tables p r (omega (arith, lt))
-
-set_there : (tables : Tables) (p q : ℕ) (r : Rows) → (p == q) ≡ false → rows_at (slice_set tables p r) q ≡ rows_at tables q
-set_there [] p q r other = refl
-set_there (t ∷ tables) zero zero r other = absurd cc
-set_there (t ∷ tables) zero (suc q) r other = refl
-set_there (t ∷ tables) (suc p) zero r other = refl
-set_there (t ∷ tables) (suc p) (suc q) r other = set_there tables p q r (grind (arith, nat_tests, other))
-
-set_past : (tables : Tables) (p : ℕ) (r : Rows) → nat_lt p (length tables) ≡ false → rows_at (slice_set tables p r) p ≡ []
-set_past [] p r past = refl
-set_past (t ∷ tables) zero r past = absurd (let z : nat_lt zero (suc (length tables)) ≡ true = grind (arith, nat_tests) in let q : true ≡ false = sym z ∙ past in cc)
-set_past (t ∷ tables) (suc p) r past = set_past tables p r (grind (arith, nat_tests, past))
+use Rattle.ring_lawful.proofs.RowKeys.{after_here, after_there, same_turned, set_here, set_past, set_there}
 
 -- ---- whether the tables have the key that a change names
-abbrev key_in : Tables → Value → Option ℕ → Bool
+abbrev pub key_in : Tables → Value → Option ℕ → Bool
 key_in tables key place = option_map_or (λ p. has_key (rows_at tables p) key) place false
 
 abbrev set_in : Tables → Change → Option ℕ → Tables
 set_in tables c place = option_map_or (λ p. slice_set tables p (rows_after (rows_at tables p) c)) place tables
 
-abbrev holds_key : Schema → Tables → Change → Bool
+abbrev pub holds_key : Schema → Tables → Change → Bool
 holds_key schema tables c = key_in tables (change_key c) (place_in schema (table_name c))
 
 refused_alike : (T S : Rows) (c : Change) → has_key T (change_key c) ≡ has_key S (change_key c) → key_refusal T c ≡ key_refusal S c
@@ -172,7 +71,7 @@ changed_alike : (schema : Schema) (T S : Tables) (c x : Change) → length T ≡
 unfolding changed
 changed_alike schema T S c x same is = set_alike T S c (change_key x) (place_in schema (table_name c)) (place_in schema (table_name x)) same is
 
-changed_length : (schema : Schema) (T : Tables) (c : Change) → length (changed schema T c) ≡ length T
+pub changed_length : (schema : Schema) (T : Tables) (c : Change) → length (changed schema T c) ≡ length T
 unfolding changed
 changed_length schema T c = go (place_in schema (table_name c))
   where
@@ -181,7 +80,7 @@ changed_length schema T c = go (place_in schema (table_name c))
     go (Some p) = length-set T p (rows_after (rows_at T p) c)
 
 -- the tables have, or lack, the same of the keys that the changes name
-abbrev AllAlike : Schema → Tables → Tables → List Change → Type 0
+abbrev pub AllAlike : Schema → Tables → Tables → List Change → Type 0
 AllAlike schema T S [] = Unit {0}
 AllAlike schema T S (c ∷ changes) = (holds_key schema T c ≡ holds_key schema S c) × AllAlike schema T S changes
 
@@ -189,7 +88,7 @@ all_alike : (schema : Schema) (T S : Tables) (c : Change) (changes : List Change
 all_alike schema T S c [] same x = tt
 all_alike schema T S c (y ∷ changes) same x = (changed_alike schema T S c y same x.0, all_alike schema T S c changes same x.1)
 
-check_alike : (schema : Schema) (T S : Tables) (changes : List Change) → length T ≡ length S → AllAlike schema T S changes → check schema T changes ≡ check schema S changes
+pub check_alike : (schema : Schema) (T S : Tables) (changes : List Change) → length T ≡ length S → AllAlike schema T S changes → check schema T changes ≡ check schema S changes
 check_alike schema T S [] same x = refl
 check_alike schema T S (c ∷ changes) same x =
     let more = check_alike schema (changed schema T c) (changed schema S c) changes (changed_length schema T c ∙ (same ∙ sym (changed_length schema S c))) (all_alike schema T S c changes same x.1) in
@@ -290,7 +189,7 @@ key_stays schema T (e ∷ es) x none = go (λ S n. key_stays schema S es x n) e.
         one true y z = absurd cc
         one false y z = more (applied schema T t.changes) z ∙ applied_apart schema T t.changes x y
 
-keys_stay : (schema : Schema) (T : Tables) (es : List Entry) (changes : List Change) → list_any (is_held (pairs_in es)) changes ≡ false → AllAlike schema (rows_from schema T es) T changes
+pub keys_stay : (schema : Schema) (T : Tables) (es : List Entry) (changes : List Change) → list_any (is_held (pairs_in es)) changes ≡ false → AllAlike schema (rows_from schema T es) T changes
 keys_stay schema T es [] none = tt
 keys_stay schema T es (x ∷ changes) none = go (is_held (pairs_in es) x) refl none (keys_stay schema T es changes)
   where
@@ -298,74 +197,3 @@ keys_stay schema T es (x ∷ changes) none = go (is_held (pairs_in es) x) refl n
         → (list_any (is_held (pairs_in es)) changes ≡ false → AllAlike schema (rows_from schema T es) T changes) → AllAlike schema (rows_from schema T es) T (x ∷ changes)
     go true y z more = absurd cc
     go false y z more = (key_stays schema T es x y, more z)
-
--- ---- how many tables there are
-all_length : (schema : Schema) (T : Tables) (changes : List Change) → length (all_changed schema T changes) ≡ length T
-all_length schema T [] = refl
-all_length schema T (c ∷ changes) = all_length schema (changed schema T c) changes ∙ changed_length schema T c
-
-rows_length : (schema : Schema) (T : Tables) (es : List Entry) → length (rows_from schema T es) ≡ length T
-rows_length schema T [] = refl
-rows_length schema T (e ∷ es) = rows_length schema (after_payload schema T e.payload) es ∙ go e.payload
-  where
-    txn : (t : Txn) (b : Bool) → length (if b then all_changed schema T t.changes else T) ≡ length T
-    txn t true = all_length schema T t.changes
-    txn t false = refl
-
-    go : (p : Payload) → length (after_payload schema T p) ≡ length T
-    go payload.NoOp = refl
-    go payload.Rotate = refl
-    go (payload.Txn t) = txn t (is_none (check schema T t.changes))
-
--- ---- lists of entries
-rows_join : (schema : Schema) (T : Tables) (a b : List Entry) → rows_from schema T (a ++ b) ≡ rows_from schema (rows_from schema T a) b
-rows_join schema T [] b = refl
-rows_join schema T (e ∷ a) b = rows_join schema (after_payload schema T e.payload) a b
-
-valid_push : (schema : Schema) (T : Tables) (l : List Entry) (e : Entry) → is_valid_from schema T l ≡ true → payload_is_accepted schema (rows_from schema T l) e.payload ≡ true → is_valid_from schema T (l ++ e ∷ []) ≡ true
-valid_push schema T [] e x y = rw y refl
-valid_push schema T (f ∷ l) e x y =
-    let z = both_true (payload_is_accepted schema T f.payload) (is_valid_from schema (after_payload schema T f.payload) l) x in
-    let here = z.0 in
-    rw here (valid_push schema (after_payload schema T f.payload) l e z.1 y)
-
-valid_cut : (schema : Schema) (T : Tables) (n : ℕ) (l : List Entry) → is_valid_from schema T l ≡ true → is_valid_from schema T (take n l) ≡ true
-valid_cut schema T zero l x = refl
-valid_cut schema T (suc n) [] x = refl
-valid_cut schema T (suc n) (f ∷ l) x =
-    let z = both_true (payload_is_accepted schema T f.payload) (is_valid_from schema (after_payload schema T f.payload) l) x in
-    let here = z.0 in
-    rw here (valid_cut schema (after_payload schema T f.payload) n l z.1)
-
--- changes that the rows of a beginning accept, and of which no later transaction writes a key, are accepted by the rows of the whole list
-pub accepted_later : (schema : Schema) (l : List Entry) (a : ℕ) (changes : List Change) → check schema (rows schema (take a l)) changes ≡ None → list_any (is_held (pairs_in (drop a l))) changes ≡ false
-    → check schema (rows schema l) changes ≡ None
-unfolding rows
-accepted_later schema l a changes is free =
-    let T : Tables = rows_from schema (empty_tables schema) (take a l) in
-    let all : rows_from schema (empty_tables schema) l ≡ rows_from schema T (drop a l) = ap (rows_from schema (empty_tables schema)) (sym (take-append-drop a l)) ∙ rows_join schema (empty_tables schema) (take a l) (drop a l) in
-    ap (λ (S : Tables). check schema S changes) all ∙ (check_alike schema (rows_from schema T (drop a l)) T changes (rows_length schema T (drop a l)) (keys_stay schema T (drop a l) changes free) ∙ is)
-
--- ---- valid lists
-pub none_valid : (schema : Schema) → is_valid schema [] ≡ true
-unfolding is_valid
-none_valid schema = refl
-
-pub valid_take : (schema : Schema) (n : ℕ) (l : List Entry) → is_valid schema l ≡ true → is_valid schema (take n l) ≡ true
-unfolding is_valid
-valid_take schema n l x = valid_cut schema (empty_tables schema) n l x
-
-pub valid_plain : (schema : Schema) (l : List Entry) (e : Entry) → pairs_in (e ∷ []) ≡ [] → is_valid schema l ≡ true → is_valid schema (l ++ e ∷ []) ≡ true
-unfolding is_valid
-valid_plain schema l e none x = valid_push schema (empty_tables schema) l e x (go e.payload refl)
-  where
-    go : (p : Payload) → e.payload ≡ p → payload_is_accepted schema (rows_from schema (empty_tables schema) l) e.payload ≡ true
-    go payload.NoOp is = rw is refl
-    go payload.Rotate is = rw is refl
-    go (payload.Txn t) is = absurd (let u = rw is at none in cc)
-
-pub valid_write : (schema : Schema) (l : List Entry) (a : ℕ) (e : Entry) (t : Txn) → e.payload ≡ payload.Txn t → is_valid schema l ≡ true → check schema (rows schema (take a l)) t.changes ≡ None
-    → list_any (is_held (pairs_in (drop a l))) t.changes ≡ false → is_valid schema (l ++ e ∷ []) ≡ true
-unfolding is_valid rows
-valid_write schema l a e t is x ok free =
-    valid_push schema (empty_tables schema) l e x (let y : check schema (rows_from schema (empty_tables schema) l) t.changes ≡ None = accepted_later schema l a t.changes ok free in rw is (rw y refl))

@@ -13,7 +13,7 @@ use Rattle.ring_types.specs.declared.entries.Payload.{Payload}
 use Rattle.ring_types.specs.declared.entries.Payload.TheVariants as payload
 use Rattle.ring_types.specs.Logs.{entry_at, has_opid, same_opid}
 use Rattle.ring_model.specs.Actions.{entries_between, is_prepared, pair_of, pairs_in}
-use Rattle.ring_model.proofs.Lists.{any_true, cons_cases, in_cons, none_contained, place_cases}
+use Rattle.ring_model.proofs.Lists.{any_true, cons_cases, in_cons, none_contained, place_cases, placed_contains}
 
 abbrev pub Placed : List Entry → Type 0
 Placed log = (k : ℕ) (e : Entry) → entry_at log k ≡ Some e → e.opid.position ≡ k
@@ -81,11 +81,6 @@ contains_place [] e c = absurd (none_contained e c)
 contains_place (x ∷ xs) e (zero, lt, is) = (0, ap (λ (w : Entry). Some w) is)
 contains_place (x ∷ xs) e (suc k, lt, is) = let y = contains_place xs e (k, omega arith, is) in (suc y.0, y.1)
 
-place_contains : (xs : List Entry) (j : ℕ) (e : Entry) → slice_get xs j ≡ Some e → Contains xs e
-place_contains [] j e is = absurd cc
-place_contains (x ∷ xs) zero e is = (zero, omega arith, let z : x ≡ e = cc in z)
-place_contains (x ∷ xs) (suc j) e is = in_cons x xs e (place_contains xs j e is)
-
 -- an entry of a stretch stands in the log, between its ends
 pub in_between : (log : List Entry) (a k : ℕ) (e : Entry) → Placed log → Contains (entries_between log a k) e → (entry_at log e.opid.position ≡ Some e) × (a < e.opid.position) × (e.opid.position ≤ k)
 in_between log a k e placed c =
@@ -100,7 +95,7 @@ in_between log a k e placed c =
 
 pub at_contains : (log : List Entry) (k : ℕ) (e : Entry) → entry_at log k ≡ Some e → Contains log e
 at_contains log zero e is = absurd cc
-at_contains log (suc k) e is = place_contains log k e is
+at_contains log (suc k) e is = placed_contains log k e is
 
 pub opid_in : (log : List Entry) (e : Entry) → Contains log e → has_opid log e.opid ≡ true
 opid_in log e c = any_true (λ (x : Entry). same_opid x.opid e.opid) log e c (grind (arith, nat_tests))
@@ -137,7 +132,7 @@ opid_beyond log o placed more = go log (λ e c. let y = contains_place log e c i
         rw no (go xs (λ e c. each e (in_cons x xs e c)))
 
 pub between_at : (log : List Entry) (a k j : ℕ) (e : Entry) → a ≤ j → j < k → entry_at log (suc j) ≡ Some e → Contains (entries_between log a k) e
-between_at log a k j e low high is = place_contains (entries_between log a k) (j - a) e (go (drop a log) (k - a) (j - a) (omega (arith, low, high)) (drop_place log a (j - a) ∙ (let z : a + (j - a) ≡ j = omega (arith, low) in rw z is)))
+between_at log a k j e low high is = placed_contains (entries_between log a k) (j - a) e (go (drop a log) (k - a) (j - a) (omega (arith, low, high)) (drop_place log a (j - a) ∙ (let z : a + (j - a) ≡ j = omega (arith, low) in rw z is)))
   where
     go : (xs : List Entry) (n i : ℕ) → i < n → slice_get xs i ≡ Some e → slice_get (take n xs) i ≡ Some e
     go xs zero i lt at = absurd (omega arith)

@@ -1,9 +1,10 @@
 -- A lawful node, part by part, as the rules of the step take it; and what a good input gives them.
-use Rattle.std.proofs.Common.{◌≡◌, ℕ, ◌+◌, ◌^◌, ◌<◌, ◌≤◌, ◌==◌, ◌&&◌, ◌⊎◌, [], ◌∷◌, ◌∙◌, if◌then◌else◌, Bool, List, ap, arith, false, inl, inr, length, map, refl, subst, suc, sym, true, zero}
+use Rattle.std.proofs.Common.{◌≡◌, ℕ, ◌+◌, ◌<◌, ◌≤◌, ◌==◌, ◌&&◌, ◌⊎◌, [], ◌∷◌, ◌∙◌, if◌then◌else◌, Bool, List, ap, arith, false, inl, inr, length, map, refl, subst, suc, sym, true, zero}
 use Rattle.std.proofs.lemmas.Bool.Decides.{nat_tests}
 use Rattle.std.specs.Prelude.{nat_le, nat_lt, slice_index}
 use Rattle.std.specs.List.{All, Contains, list_all}
 use Rattle.std.specs.List.Sorted.{IsStrictlyIncreasing}
+use Rattle.ring_types.specs.declared.limits.TheConstants.{TERM_END}
 use Rattle.ring_types.specs.declared.entries.Entry.{Entry}
 use Rattle.ring_types.specs.declared.entries.Opid.{Opid}
 use Rattle.ring_types.specs.declared.entries.Vote.{Vote}
@@ -35,8 +36,11 @@ use Rattle.ring_lawful.proofs.Engine.{Clean}
 use Rattle.ring_lawful.proofs.EngineSteps.{EngineRuns}
 use Rattle.ring_lawful.proofs.Leads.{Rises, SoftFits}
 use Rattle.ring_lawful.proofs.Prepared.{Engine}
-use Rattle.ring_lawful.proofs.Sized.{BodyFits, Rising, Sized, all_weaker, entry_fits, rotates_is}
-use Rattle.ring_lawful.proofs.SizedRules.{IsShort, Keeps, beat_keeps, elect_keeps, idle_keeps, rotate_keeps, write_keeps}
+use Rattle.ring_lawful.proofs.Sized.{BodyFits, Rising, Sized, all_weaker, entry_fits, fit_parts, rotates_is}
+use Rattle.ring_lawful.proofs.SizedSteps.{IsShort, Keeps, idle_keeps}
+use Rattle.ring_lawful.proofs.SizedElections.{elect_keeps}
+use Rattle.ring_lawful.proofs.SizedOwn.{rotate_keeps, write_keeps}
+use Rattle.ring_lawful.proofs.SizedAppends.{beat_keeps}
 use Rattle.ring_lawful.proofs.Sound.{body_keeps, cancel_keeps, transfer_keeps}
 use Rattle.ring_lawful.proofs.SteadyAppend.{Counted, Near}
 use Rattle.ring_lawful.proofs.SteadyRules.{Goes, GoesIn}
@@ -71,14 +75,14 @@ rises_from (v ∷ w ∷ ps) h =
     let here : nat_lt v.opid.position w.opid.position ≡ true = grind (arith, nat_tests, lt) in
     (rw here (all_weaker (λ (u : Pending). nat_lt w.opid.position u.opid.position) (λ (u : Pending). nat_lt v.opid.position u.opid.position) ps (λ u is. grind (arith, nat_tests, is, lt)) rest.0), rest)
 
-entries_fit : (ring : Layout) (t p : ℕ) (xs : List Entry) → Chain t p xs → p + length xs < 2 ^ 62 → list_all (λ (e : Entry). nat_le (group_bytes ring.schema e.payload) group_limit) xs ≡ true → payloads_fit ring.schema xs ≡ true → list_all (entry_fits ring) xs ≡ true
+entries_fit : (ring : Layout) (t p : ℕ) (xs : List Entry) → Chain t p xs → p + length xs < TERM_END → list_all (λ (e : Entry). nat_le (group_bytes ring.schema e.payload) group_limit) xs ≡ true → payloads_fit ring.schema xs ≡ true → list_all (entry_fits ring) xs ≡ true
 entries_fit ring t p [] c short groups fit = refl
 entries_fit ring t p (x ∷ xs) c short groups fit =
     let g = both_true (nat_le (group_bytes ring.schema x.payload) group_limit) (list_all (λ (e : Entry). nat_le (group_bytes ring.schema e.payload) group_limit) xs) groups in
     let f = both_true (payload_fits ring.schema x.payload) (payloads_fit ring.schema xs) fit in
     let at = c.0 in
     let a = g.0 in
-    let b : nat_lt x.opid.position (2 ^ 62) ≡ true = grind (arith, nat_tests, at, short) in
+    let b : nat_lt x.opid.position TERM_END ≡ true = grind (arith, nat_tests, at, short) in
     let e = f.0 in
     rw (a, b, e) (entries_fit ring x.opid.term (suc p) xs c.2 (omega (arith, short)) g.1 f.1)
 
@@ -97,7 +101,7 @@ engine_from ring me d x = record { engine = λ runs. x.pairs_in_order; tailer = 
 
 pub payloads_from : (ring : Layout) (d : Durable) → Sized ring d → payloads_fit ring.schema d.log ≡ true
 payloads_from ring d x = all_weaker (entry_fits ring) (λ (e : Entry). payload_fits ring.schema e.payload) d.log
-    (λ e is. (both_true (nat_le (group_bytes ring.schema e.payload) group_limit && nat_lt e.opid.position (2 ^ 62)) (payload_fits ring.schema e.payload) is).1) x.entries
+    (λ e is. (fit_parts ring e is).2) x.entries
 
 -- ---- the running node
 near_from : (len : ℕ) (peers : List Peer) → All (PeerFits len) peers → Near len peers
@@ -182,7 +186,7 @@ sent_fit ring (x ∷ xs) groups opids fit =
     let o = both_true (opid_fits x.opid) (list_all opid_fits (opids_of xs)) opids in
     let f = both_true (payload_fits ring.schema x.payload) (payloads_fit ring.schema xs) fit in
     let a = g.0 in
-    let b = (both_true (nat_lt x.opid.term (2 ^ 62)) (nat_lt x.opid.position (2 ^ 62)) o.0).1 in
+    let b = (both_true (nat_lt x.opid.term TERM_END) (nat_lt x.opid.position TERM_END) o.0).1 in
     let e = f.0 in
     rw (a, b, e) (sent_fit ring xs g.1 o.1 f.1)
 

@@ -1,25 +1,22 @@
 -- Actions that keep order, limits and pairs are possible, each where its turn comes.
-use Rattle.std.proofs.Common.{◌≡◌, ℕ, ◌^◌, ◌≤◌, ◌&&◌, [], ◌∷◌, List, arith, length, suc, take, true}
-use Rattle.std.specs.Prelude.{nat_le, nat_lt}
+use Rattle.std.proofs.Common.{◌≡◌, ℕ, ◌≤◌, [], ◌∷◌, List, arith, length, suc, take, true}
 use Rattle.ring_types.specs.declared.entries.Entry.{Entry}
 use Rattle.ring_types.specs.declared.entries.Opid.{Opid}
 use Rattle.ring_types.specs.Logs.{IsLog}
 use Rattle.ring_types.specs.Rings.{Layout}
 use Rattle.ring_types.specs.Rows.{payload_fits, payloads_fit}
-use Rattle.ring_types.specs.Sizes.{group_bytes, group_limit}
 use Rattle.ring_model.specs.declared.effects.Action.{Action}
 use Rattle.ring_model.specs.declared.effects.Action.TheVariants as action
 use Rattle.ring_model.specs.declared.nodes.Durable.{Durable}
 use Rattle.ring_model.specs.Actions.{ArePossible, IsPossible, all_done, done}
 use Rattle.ring_model.specs.Nodes.{stray_opids}
 use Rattle.ring_model.specs.Worlds.{restart_actions}
-use Rattle.ring_model.proofs.Lists.{both_true}
 use Rattle.ring_lawful.proofs.Keeps.{KeepsOrder}
 use Rattle.ring_lawful.proofs.Along.{Allowed, Along}
 use Rattle.ring_lawful.proofs.Engine.{Can}
-use Rattle.ring_lawful.proofs.EngineRules.{AllTail, IsTail}
+use Rattle.ring_lawful.proofs.EngineBoth.{AllTail, IsTail}
 use Rattle.ring_lawful.proofs.Pairs.{take_short}
-use Rattle.ring_lawful.proofs.Sized.{May, Sized, all_weaker, entry_fits, rotates_is}
+use Rattle.ring_lawful.proofs.Sized.{May, Sized, all_weaker, entry_fits, fit_parts, rotates_is}
 use Rattle.ring_lawful.proofs.Sound.{short_log}
 
 -- what holds before and after each action
@@ -34,7 +31,7 @@ good ring d o x =
     let q = rotates_is d.log in
     record {
       log = record { placed = o.placed; rises = o.rises; short = short_log ring d.log o.placed x.entries; few_files = omega (arith, f, q) };
-      payloads = all_weaker (entry_fits ring) (λ (e : Entry). payload_fits ring.schema e.payload) d.log (λ e is. (both_true (nat_le (group_bytes ring.schema e.payload) group_limit && nat_lt e.opid.position (2 ^ 62)) (payload_fits ring.schema e.payload) is).1) x.entries;
+      payloads = all_weaker (entry_fits ring) (λ (e : Entry). payload_fits ring.schema e.payload) d.log (λ e is. (fit_parts ring e is).2) x.entries;
       applied = o.applied_inside;
     }
 

@@ -1,5 +1,5 @@
 -- What an engine's actions and a recovery leave of the prepared pairs: those of a stretch above the applied count, and on a logtailer none.
-use Rattle.std.proofs.Common.{◌≡◌, ℕ, ◌≤◌, [], ◌∷◌, ◌∙◌, Bool, List, ap, arith, false, length, not, refl, suc, sym, take, true, zero}
+use Rattle.std.proofs.Common.{◌≡◌, ℕ, ◌≤◌, [], ◌∷◌, ◌∙◌, Bool, List, ap, arith, false, length, not, refl, sym, true}
 use Rattle.std.proofs.lemmas.Bool.Decides.{nat_tests}
 use Rattle.std.specs.Prelude.{filter, map}
 use Rattle.std.specs.List.{list_any}
@@ -12,12 +12,12 @@ use Rattle.ring_model.specs.declared.effects.Action.{Action}
 use Rattle.ring_model.specs.declared.effects.Action.TheVariants as action
 use Rattle.ring_model.specs.declared.nodes.Durable.{Durable}
 use Rattle.ring_model.specs.declared.nodes.Soft.{Soft}
-use Rattle.ring_model.specs.Actions.{all_done, done, pairs_in}
+use Rattle.ring_model.specs.Actions.{done, pairs_in}
 use Rattle.ring_model.specs.Nodes.{kept_pairs, recover, stray_opids}
 use Rattle.ring_lawful.proofs.Keeps.{KeepsPairs, RunsEngine}
 use Rattle.ring_lawful.proofs.Along.{Along}
 use Rattle.ring_lawful.proofs.Engine.{Clean, HasPairs, clean_kept}
-use Rattle.ring_lawful.proofs.EngineRules.{AllTail, IsTail}
+use Rattle.ring_lawful.proofs.EngineBoth.{AllTail, IsTail}
 use Rattle.ring_lawful.proofs.EngineSteps.{EngineRuns}
 use Rattle.ring_lawful.proofs.Pairs.{Placed, none_between}
 
@@ -81,21 +81,11 @@ dropped_pairs d opids is =
     filter_within (λ (p : Pair). has_opid d.log p.opid) (λ (p : Pair). not (list_any (same_opid p.opid) opids)) d.prepared
     (λ p has. ap (λ (os : List Opid). not (list_any (same_opid p.opid) os)) (sym is) ∙ ap not (stray_not d.log p.opid d.prepared has))
 
-pub partly_one : (ring : Layout) (id : ℕ) (d : Durable) (n : ℕ) (o : List Opid) → stray_opids d ≡ o → Engine ring id d → Engine ring id (all_done d (take n (elim o [ [] ↦ [] | o ∷ opids ↦ action.DropPairs (o ∷ opids) ∷ [] ])))
-partly_one ring id d zero [] is x = x
-partly_one ring id d (suc n) [] is x = x
-partly_one ring id d zero (o ∷ opids) is x = x
-partly_one ring id d (suc n) (o ∷ opids) is x = go n
-  where
-    y : Engine ring id (done d (action.DropPairs (o ∷ opids)))
-    y = record {
-      engine = λ runs. (let z = x.engine runs in (z.0, z.1, z.2, dropped_pairs d (o ∷ opids) is ∙ z.3));
-      tailer = λ runs. (let z = x.tailer runs in (z.0, ap (filter (λ (p : Pair). not (list_any (same_opid p.opid) (o ∷ opids)))) z.1));
-    }
-
-    go : (n : ℕ) → Engine ring id (all_done d (take (suc n) (action.DropPairs (o ∷ opids) ∷ [])))
-    go zero = y
-    go (suc n) = y
+pub dropped_engine : (ring : Layout) (id : ℕ) (d : Durable) (opids : List Opid) → stray_opids d ≡ opids → Engine ring id d → Engine ring id (done d (action.DropPairs opids))
+dropped_engine ring id d opids is x = record {
+  engine = λ runs. (let z = x.engine runs in (z.0, z.1, z.2, dropped_pairs d opids is ∙ z.3));
+  tailer = λ runs. (let z = x.tailer runs in (z.0, ap (filter (λ (p : Pair). not (list_any (same_opid p.opid) opids))) z.1));
+}
 
 -- ---- each node by itself
 empty_has : (d : Durable) → IsEmpty d → HasPairs d

@@ -1,5 +1,5 @@
 -- Recovery makes a lawful node of any sound durable part, and what a restart does comes to it.
-use Rattle.std.proofs.Common.{◌≡◌, ℕ, [], ◌∷◌, ◌∙◌, Bool, List, ap, arith, false, refl, subst, suc, sym, take, true, zero}
+use Rattle.std.proofs.Common.{◌≡◌, ℕ, [], ◌∷◌, ◌∙◌, Bool, List, ap, arith, false, refl, subst, sym, take, true, zero}
 use Rattle.std.specs.Prelude.{filter}
 use Rattle.std.specs.List.{Contains}
 use Rattle.ring_types.specs.declared.entries.Opid.{Opid}
@@ -20,7 +20,7 @@ use Rattle.ring_lawful.proofs.Lawful.{lawful_from}
 use Rattle.ring_lawful.proofs.Leads.{stands}
 use Rattle.ring_lawful.proofs.Parts.{engine_from}
 use Rattle.ring_lawful.proofs.Possible.{restart_possible}
-use Rattle.ring_lawful.proofs.Prepared.{Engine, Running, pairs_of, partly_one, recovered_from, runs_of}
+use Rattle.ring_lawful.proofs.Prepared.{Engine, Running, pairs_of, dropped_engine, recovered_from, runs_of}
 use Rattle.std.proofs.Common.{not}
 use Rattle.std.proofs.lemmas.Bool.Decides.{nat_tests}
 use Rattle.std.specs.List.{list_any}
@@ -30,6 +30,7 @@ use Rattle.ring_model.proofs.Lists.{any_true, filter_keeps, in_cons, map_keeps}
 use Rattle.ring_lawful.specs.EachStep.{EveryFirstNodeIsLawful}
 use Rattle.ring_lawful.proofs.Chains.{chain_places, chain_rises}
 use Rattle.ring_lawful.proofs.Prepared.{stray_not}
+use Rattle.ring_model.proofs.Restarts.{partly}
 
 -- ---- recovery
 -- with these prepared pairs alone made other, sound where the pairs are
@@ -47,18 +48,9 @@ repaired ring me d ps y x = record {
   tailer = y.tailer;
 }
 
-pub partly_sound : (ring : Layout) (me : ℕ) (d : Durable) (n : ℕ) (o : List Opid) → stray_opids d ≡ o → IsSound ring me d → IsSound ring me (all_done d (take n (elim o [ [] ↦ [] | o ∷ opids ↦ action.DropPairs (o ∷ opids) ∷ [] ])))
-partly_sound ring me d zero [] is x = x
-partly_sound ring me d (suc n) [] is x = x
-partly_sound ring me d zero (o ∷ opids) is x = x
-partly_sound ring me d (suc n) (o ∷ opids) is x = go n
-  where
-    y : IsSound ring me (done d (action.DropPairs (o ∷ opids)))
-    y = repaired ring me d _ (pairs_of ring me (done d (action.DropPairs (o ∷ opids))) (partly_one ring me d 1 (o ∷ opids) is (engine_from ring me d x))) x
-
-    go : (n : ℕ) → IsSound ring me (all_done d (take (suc n) (action.DropPairs (o ∷ opids) ∷ [])))
-    go zero = y
-    go (suc n) = y
+pub partly_sound : (ring : Layout) (me : ℕ) (d : Durable) (n : ℕ) → IsSound ring me d → IsSound ring me (all_done d (take n (restart_actions d)))
+partly_sound ring me d n x =
+    partly (IsSound ring me) d x (λ opids is. repaired ring me d _ (pairs_of ring me (done d (action.DropPairs opids)) (dropped_engine ring me d opids is (engine_from ring me d x))) x) n
 
 pub recovery_lawful : (ring : Layout) (me : ℕ) (d : Durable) → IsSound ring me d → IsLawful ring me (recover d) (fresh_soft d)
 recovery_lawful ring me d x =
@@ -109,7 +101,7 @@ restart_recovers d = go (stray_opids d) refl
     go (o ∷ opids) is = ap (λ (ps : List Pair). record d { prepared = ps }) (subst (λ (os : List Opid). filter (λ (p : Pair). not (list_any (same_opid p.opid) os)) d.prepared ≡ kept_pairs d) is same)
 
 pub every_recovery_is_lawful : EveryRecoveryIsLawful
-every_recovery_is_lawful ring me d x = (recovery_lawful ring me d x, restart_possible ring d, λ n. partly_sound ring me d n (stray_opids d) refl x, restart_recovers d)
+every_recovery_is_lawful ring me d x = (recovery_lawful ring me d x, restart_possible ring d, λ n. partly_sound ring me d n x, restart_recovers d)
 
 -- ---- a node that never ran
 pub empty_sound : (ring : Layout) (me : ℕ) → IsSound ring me empty_durable

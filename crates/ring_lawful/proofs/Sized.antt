@@ -1,10 +1,12 @@
 -- Sizes and votes: terms, positions and groups stay within their limits, and kept votes rise; what allows each action keeps them so.
-use Rattle.std.proofs.Common.{◌≡◌, ℕ, ◌+◌, ◌-◌, ◌^◌, ◌<◌, ◌≤◌, ◌==◌, ◌&&◌, [], ◌∷◌, ◌++◌, ◌∙◌, if◌then◌else◌, Bool, List, None, Option, Some, ap, arith, drop, false, length, refl, subst, suc, sym, take, true, zero}
+use Rattle.std.proofs.lemmas.List.{length_push}
+use Rattle.std.proofs.Common.{◌≡◌, ℕ, ◌+◌, ◌-◌, ◌<◌, ◌≤◌, ◌==◌, ◌&&◌, [], ◌∷◌, ◌++◌, ◌∙◌, if◌then◌else◌, Bool, List, None, Option, Some, ap, arith, drop, false, length, refl, subst, suc, sym, take, true, zero}
 use Rattle.std.proofs.lemmas.Bool.Decides.{nat_tests}
 use Rattle.std.proofs.lemmas.List.Recursion.{is_count_by}
 use Rattle.std.specs.Prelude.{filter, map, nat_le, nat_lt}
 use Rattle.std.specs.List.{list_all}
 use Rattle.std.specs.List.Sorted.{IsStrictlyIncreasing}
+use Rattle.ring_types.specs.declared.limits.TheConstants.{LAST_FILE, TERM_END}
 use Rattle.ring_types.specs.declared.entries.Entry.{Entry}
 use Rattle.ring_types.specs.declared.entries.Pair.{Pair}
 use Rattle.ring_types.specs.declared.entries.Vote.{Vote}
@@ -28,7 +30,7 @@ use Rattle.ring_types.specs.declared.values.Txn.{Txn}
 use Rattle.ring_types.specs.Rows.{payload_fits}
 
 abbrev pub entry_fits : Layout → Entry → Bool
-entry_fits ring e = nat_le (group_bytes ring.schema e.payload) group_limit && nat_lt e.opid.position (2 ^ 62) && payload_fits ring.schema e.payload
+entry_fits ring e = nat_le (group_bytes ring.schema e.payload) group_limit && nat_lt e.opid.position TERM_END && payload_fits ring.schema e.payload
 
 -- how many entries end a file, from the first on
 abbrev pub turns : List Entry → ℕ
@@ -44,18 +46,18 @@ Rising [] = Unit {0}
 Rising (v ∷ votes) = (list_all (λ (w : Vote). nat_lt v.term w.term) votes ≡ true) × Rising votes
 
 pub record Sized (ring : Layout) (d : Durable) : Type 0 where
-  pub term : d.term < 2 ^ 62
+  pub term : d.term < TERM_END
   pub entries : list_all (entry_fits ring) d.log ≡ true
-  pub files : turns d.log ≤ 999998
+  pub files : turns d.log ≤ LAST_FILE - 1
   pub few : length d.votes ≤ 1024
   pub rise : Rising d.votes
   pub below : list_all (λ (v : Vote). nat_le v.term d.term) d.votes ≡ true
 
 -- what allows an action
 abbrev pub May : Layout → Durable → Action → Type 0
-May ring d (action.SetTerm t) = (d.term < t) × (t < 2 ^ 62)
+May ring d (action.SetTerm t) = (d.term < t) × (t < TERM_END)
 May ring d (action.Vote v floor) = (has_room floor d.votes ≡ true) × (v.term ≡ d.term) × (vote_in d.votes d.term ≡ None)
-May ring d (action.Append es) = (list_all (entry_fits ring) es ≡ true) × (turns d.log + turns es ≤ 999998)
+May ring d (action.Append es) = (list_all (entry_fits ring) es ≡ true) × (turns d.log + turns es ≤ LAST_FILE - 1)
 May ring d (action.Truncate p) = p ≤ length d.log
 May ring d (action.Prepare p) = (payload_fits ring.schema (payload.Txn p.txn) ≡ true) × (group_bytes ring.schema (payload.Txn p.txn) ≤ group_limit)
 May ring d (action.Commit p) = Unit {0}
@@ -88,10 +90,6 @@ all_filter p q (x ∷ xs) t = go (q x) refl (both_true (p x) (list_all p xs) t).
     go : (b : Bool) → q x ≡ b → p x ≡ true → list_all p (filter q xs) ≡ true → list_all p (filter q (x ∷ xs)) ≡ true
     go true is here rest = rw (is, here) rest
     go false is here rest = rw is rest
-
-length_push : {X : Type 0} (xs : List X) (x : X) → length (xs ++ x ∷ []) ≡ suc (length xs)
-length_push [] x = refl
-length_push (y ∷ xs) x = ap suc (length_push xs x)
 
 pub turns_join : (xs ys : List Entry) → turns (xs ++ ys) ≡ turns xs + turns ys
 turns_join [] ys = omega arith
@@ -153,9 +151,9 @@ increasing (v ∷ w ∷ votes) r (suc k) lt = let z : suc k + 1 ≡ suc (k + 1) 
 -- ---- each action
 pub sized_at : (ring : Layout) (d e : Durable) → e.term ≡ d.term → e.votes ≡ d.votes → e.log ≡ d.log → Sized ring d → Sized ring e
 sized_at ring d e t v l x = record {
-  term = subst (λ (n : ℕ). n < 2 ^ 62) (sym t) x.term;
+  term = subst (λ (n : ℕ). n < TERM_END) (sym t) x.term;
   entries = ap (list_all (entry_fits ring)) l ∙ x.entries;
-  files = subst (λ (w : List Entry). turns w ≤ 999998) (sym l) x.files;
+  files = subst (λ (w : List Entry). turns w ≤ LAST_FILE - 1) (sym l) x.files;
   few = subst (λ (w : List Vote). length w ≤ 1024) (sym v) x.few;
   rise = subst Rising (sym v) x.rise;
   below = subst (λ (n : ℕ). list_all (λ (w : Vote). nat_le w.term n) e.votes ≡ true) (sym t) (subst (λ (ws : List Vote). list_all (λ (w : Vote). nat_le w.term d.term) ws ≡ true) (sym v) x.below);
@@ -205,6 +203,13 @@ sized_one ring d (action.RollBackAfter p) m x = sized_at ring d (done d (action.
 sized_one ring d (action.DropPairs opids) m x = sized_at ring d (done d (action.DropPairs opids)) refl refl refl x
 
 -- ---- the engine's actions are allowed where the log's entries fit
+pub fit_parts : (ring : Layout) (e : Entry) → entry_fits ring e ≡ true
+    → (nat_le (group_bytes ring.schema e.payload) group_limit ≡ true) × (nat_lt e.opid.position TERM_END ≡ true) × (payload_fits ring.schema e.payload ≡ true)
+fit_parts ring e fit =
+    let a = both_true (nat_le (group_bytes ring.schema e.payload) group_limit && nat_lt e.opid.position TERM_END) (payload_fits ring.schema e.payload) fit in
+    let b = both_true (nat_le (group_bytes ring.schema e.payload) group_limit) (nat_lt e.opid.position TERM_END) a.0 in
+    (b.0, b.1, a.1)
+
 pair_fits : (ring : Layout) (e : Entry) (p : Pair) → entry_fits ring e ≡ true → pair_of e ≡ Some p → (payload_fits ring.schema (payload.Txn p.txn) ≡ true) × (group_bytes ring.schema (payload.Txn p.txn) ≤ group_limit)
 pair_fits ring e p fit has = go e.payload refl has
   where
@@ -213,9 +218,10 @@ pair_fits ring e p fit has = go e.payload refl has
 
     one : (t : Txn) → e.payload ≡ payload.Txn t → (payload_fits ring.schema (payload.Txn t) ≡ true) × (group_bytes ring.schema (payload.Txn t) ≤ group_limit)
     one t is =
-        let a = both_true (nat_le (group_bytes ring.schema e.payload) group_limit && nat_lt e.opid.position (2 ^ 62)) (payload_fits ring.schema e.payload) fit in
-        let b = both_true (nat_le (group_bytes ring.schema e.payload) group_limit) (nat_lt e.opid.position (2 ^ 62)) a.0 in
-        (subst (λ (p : Payload). payload_fits ring.schema p ≡ true) is a.1, low (group_bytes ring.schema (payload.Txn t)) (subst (λ (p : Payload). nat_le (group_bytes ring.schema p) group_limit ≡ true) is b.0))
+        let parts = fit_parts ring e fit in (
+          subst (λ (p : Payload). payload_fits ring.schema p ≡ true) is parts.2,
+          low (group_bytes ring.schema (payload.Txn t)) (subst (λ (p : Payload). nat_le (group_bytes ring.schema p) group_limit ≡ true) is parts.0),
+        )
 
     go : (b : Payload) → e.payload ≡ b → pair_of e ≡ Some p → (payload_fits ring.schema (payload.Txn p.txn) ≡ true) × (group_bytes ring.schema (payload.Txn p.txn) ≤ group_limit)
     go payload.NoOp is has = absurd (let z : pair_of e ≡ None = rw is refl in cc)
@@ -260,11 +266,11 @@ sized_after ring d (s ∷ actions) a x = sized_after ring (done d s) actions a.1
 
 -- ---- messages
 abbrev pub BodyFits : Layout → Body → Type 0
-BodyFits ring (body.RequestVote asked) = asked.term < 2 ^ 62
-BodyFits ring (body.VoteReply reply) = reply.term < 2 ^ 62
-BodyFits ring (body.Append sent) = (sent.term < 2 ^ 62) × (list_all (entry_fits ring) sent.entries ≡ true)
-BodyFits ring (body.AppendReply answer) = answer.term < 2 ^ 62
-BodyFits ring (body.ProxyAppend sent) = sent.term < 2 ^ 62
+BodyFits ring (body.RequestVote asked) = asked.term < TERM_END
+BodyFits ring (body.VoteReply reply) = reply.term < TERM_END
+BodyFits ring (body.Append sent) = (sent.term < TERM_END) × (list_all (entry_fits ring) sent.entries ≡ true)
+BodyFits ring (body.AppendReply answer) = answer.term < TERM_END
+BodyFits ring (body.ProxyAppend sent) = sent.term < TERM_END
 BodyFits ring (body.ClientWrite changes) = nat_lt 0 (length changes) ≡ true
 BodyFits ring _ = Unit {0}
 

@@ -1,13 +1,13 @@
 -- Each rule keeps the limits of a node, and a durable part that keeps order, limits and pairs is sound.
-use Rattle.std.proofs.Common.{◌≡◌, ℕ, ◌^◌, ◌<◌, ◌==◌, ◌&&◌, ◌||◌, [], ◌∷◌, ◌++◌, if◌then◌else◌, Bool, List, None, Option, Some, arith, false, length, not, refl, suc, true, zero}
+use Rattle.std.proofs.Common.{◌≡◌, ℕ, ◌<◌, ◌==◌, ◌&&◌, ◌||◌, [], ◌∷◌, ◌++◌, if◌then◌else◌, Bool, List, None, Option, Some, arith, false, length, not, refl, suc, true, zero}
 use Rattle.std.proofs.lemmas.Bool.Decides.{nat_tests}
 use Rattle.std.specs.Prelude.{nat_le, nat_lt}
 use Rattle.std.specs.List.{list_all}
+use Rattle.ring_types.specs.declared.limits.TheConstants.{TERM_END}
 use Rattle.ring_types.specs.declared.entries.Entry.{Entry}
 use Rattle.ring_types.specs.declared.entries.Opid.{Opid}
 use Rattle.ring_types.specs.declared.members.Member.{Member}
 use Rattle.ring_types.specs.Rings.{Layout, is_voter, votes}
-use Rattle.ring_types.specs.Rows.{payload_fits}
 use Rattle.ring_types.specs.Sizes.{group_bytes, group_limit}
 use Rattle.ring_model.specs.declared.effects.Cause.{Cause}
 use Rattle.ring_model.specs.declared.effects.What.TheVariants as what
@@ -31,11 +31,14 @@ use Rattle.ring_model.specs.Quorums.{is_listed}
 use Rattle.ring_model.specs.Steps.{idle, message, stepped}
 use Rattle.ring_model.specs.Transfers.{ask_transfer, begin_mock, begin_round, cancel, count_answer, deciding, hand_over, has_matched, is_off, is_old_round, mock_hears, mock_requests, mock_result, on_mock_reply, on_mock_request, on_mock_result, on_mock_start, on_timeout, opening, own_failed, own_passed, passes, result_heard, transfer_hears, transfer_refusal, verdict, with_answer}
 use Rattle.ring_model.specs.Writes.{refused}
-use Rattle.ring_model.proofs.Lists.{all_of, both_true}
+use Rattle.ring_model.proofs.Lists.{all_of}
 use Rattle.ring_lawful.proofs.Keeps.{KeepsOrder, KeepsPairs}
 use Rattle.ring_lawful.proofs.Pairs.{Placed, at_contains, within_some}
-use Rattle.ring_lawful.proofs.Sized.{AllFit, BodyFits, Sized, all_weaker, entry_fits, increasing, rotates_is}
-use Rattle.ring_lawful.proofs.SizedRules.{IsShort, Keeps, answered_keeps, append_keeps, elect_keeps, idle_keeps, quiet_keeps, relay_keeps, reply_keeps, request_keeps, rotate_keeps, write_keeps}
+use Rattle.ring_lawful.proofs.Sized.{AllFit, BodyFits, Sized, all_weaker, entry_fits, fit_parts, increasing, rotates_is}
+use Rattle.ring_lawful.proofs.SizedSteps.{IsShort, Keeps, idle_keeps, quiet_keeps}
+use Rattle.ring_lawful.proofs.SizedElections.{elect_keeps, reply_keeps, request_keeps}
+use Rattle.ring_lawful.proofs.SizedOwn.{answered_keeps, rotate_keeps, write_keeps}
+use Rattle.ring_lawful.proofs.SizedAppends.{append_keeps, relay_keeps}
 
 -- ---- rules whose messages claim nothing
 pub transfer_keeps : (ring : Layout) (me client target : ℕ) (d : Durable) (s : Soft) → IsShort d s → Keeps ring d (ask_transfer ring me d s client target)
@@ -167,20 +170,19 @@ body_keeps ring me from d s body.ClientCancel x short f = cancel_keeps ring from
 body_keeps ring me from d s (body.ClientReply what) x short f = idle_keeps ring d s short
 
 -- the last entry's position is the length
-pub short_log : (ring : Layout) (log : List Entry) → Placed log → list_all (entry_fits ring) log ≡ true → length log < 2 ^ 62
+pub short_log : (ring : Layout) (log : List Entry) → Placed log → list_all (entry_fits ring) log ≡ true → length log < TERM_END
 short_log ring log placed fit = go (length log) refl
   where
-    go : (n : ℕ) → length log ≡ n → length log < 2 ^ 62
+    go : (n : ℕ) → length log ≡ n → length log < TERM_END
     go zero is = omega (arith, is)
     go (suc k) is =
         let e = within_some log k (omega (arith, is)) in
-        let f = (both_true (nat_le (group_bytes ring.schema e.0.payload) group_limit && nat_lt e.0.opid.position (2 ^ 62)) (payload_fits ring.schema e.0.payload) (all_of (entry_fits ring) log e.0 fit (at_contains log (suc k) e.0 e.1))).0 in
-        let g = (both_true (nat_le (group_bytes ring.schema e.0.payload) group_limit) (nat_lt e.0.opid.position (2 ^ 62)) f).1 in
+        let g = (fit_parts ring e.0 (all_of (entry_fits ring) log e.0 fit (at_contains log (suc k) e.0 e.1))).1 in
         let p = placed (suc k) e.0 e.1 in
-        let q : suc k < 2 ^ 62 = near e.0.opid.position (suc k) g p in
+        let q : suc k < TERM_END = near e.0.opid.position (suc k) g p in
         omega (arith, is, q)
       where
-        near : (a b : ℕ) → nat_lt a (2 ^ 62) ≡ true → a ≡ b → b < 2 ^ 62
+        near : (a b : ℕ) → nat_lt a TERM_END ≡ true → a ≡ b → b < TERM_END
         near a b x y = grind (arith, nat_tests, x, y)
 
 -- a durable part that keeps its order, its limits and its pairs is sound
@@ -191,7 +193,7 @@ sound_from ring id d o x p =
     record {
       log = record { placed = o.placed; rises = o.rises; short = short_log ring d.log o.placed x.entries; few_files = omega (arith, f, q) };
       groups_fit = all_weaker (entry_fits ring) (λ (e : Entry). nat_le (group_bytes ring.schema e.payload) group_limit) d.log
-          (λ e is. (both_true (nat_le (group_bytes ring.schema e.payload) group_limit) (nat_lt e.opid.position (2 ^ 62)) (both_true (nat_le (group_bytes ring.schema e.payload) group_limit && nat_lt e.opid.position (2 ^ 62)) (payload_fits ring.schema e.payload) is).0).0) x.entries;
+          (λ e is. (fit_parts ring e is).0) x.entries;
       few_votes = x.few;
       votes_rise = increasing d.votes x.rise;
       votes_below = x.below;

@@ -23,8 +23,9 @@ use Rattle.ring_model.specs.Actions.{all_done}
 use Rattle.ring_model.specs.Nodes.{is_leader}
 use Rattle.ring_model.specs.Replication.{accept, first_tear, follow_append, kept_position, leads_it, match_append, on_append, outgrows, reply, take_in, tear_in, terms_of, unmatched}
 use Rattle.ring_model.specs.Steps.{demoted, follow_actions, greater_of, idle, smaller_of, stepped, unknowns}
+use Rattle.ring_model.proofs.GreaterOf.{greater_by, smaller_low}
 use Rattle.ring_model.proofs.Lists.{both_true}
-use Rattle.ring_model.proofs.Paths.{done_join}
+use Rattle.ring_model.proofs.HeldElections.{done_join}
 use Rattle.ring_lawful.proofs.Along.{Allowed, allowed_join}
 use Rattle.ring_lawful.proofs.EngineAppend.{follow_log}
 use Rattle.ring_lawful.proofs.Chains.{Chain, Ordered, Orderly, end, end_last, end_take, follow_orderly, length_join, ordered_after}
@@ -199,20 +200,6 @@ taking ring me d e commit p es (x ∷ rest) k kept at l above inside low = go (n
         record { allowed = ((there e.log (length e.log) ends (omega (arith, full, at, n)), low), tt); count = omega (arith, j, n, inside); total = omega (arith, j, n, full, at, total) }
 
 -- ---- the whole rule
-greater_low : (a b top : ℕ) → a ≤ top → b ≤ top → greater_of a b ≤ top
-greater_low a b top x y = go (nat_le a b)
-  where
-    go : (c : Bool) → (if c then b else a) ≤ top
-    go true = y
-    go false = x
-
-smaller_low : (a b top : ℕ) → b ≤ top → smaller_of a b ≤ top
-smaller_low a b top y = go (nat_le a b) refl
-  where
-    go : (c : Bool) → nat_le a b ≡ c → (if c then a else b) ≤ top
-    go true is = grind (arith, nat_tests, is, y)
-    go false is = y
-
 -- what a member knows of an Append that it takes
 pub record Takes (d : Durable) (s : Soft) (sent : Append) : Type 0 where
   pub chain : Chain sent.prev.term sent.prev.position sent.entries
@@ -241,7 +228,7 @@ module _ (ring : Layout) (me : ℕ) (d : Durable) (o s : Soft) (first : List Act
       let y : Taking e s.commit last acts = taking ring me d e s.commit sent.prev.position sent.entries rest k kept k.is l (omega (arith, ap_is, above, same)) (omega (arith, inside, same)) low in
       let f : Durable = all_done e acts in
       let ordered : Ordered f = ordered_after e acts y.allowed (ordered_after d first a x) in
-      let fit : commit ≤ length f.log = greater_low s.commit (smaller_of sent.commit last) (length f.log) y.count (smaller_low sent.commit last (length f.log) y.total) in
+      let fit : commit ≤ length f.log = greater_by (λ (n : ℕ). n ≤ length f.log) s.commit (smaller_of sent.commit last) y.count (let low = (smaller_low sent.commit last).1 in let z = y.total in omega (arith, low, z)) in
       let more : List Action = follow_actions ring me f commit in
       let j : length (all_done d (first ++ (acts ++ more))).log ≡ length f.log = ap (λ (w : Durable). length w.log) (done_join d first (acts ++ more) ∙ done_join e acts more) ∙ ap length (follow_log ring me f commit) in
       record {

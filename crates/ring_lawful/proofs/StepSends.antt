@@ -19,9 +19,13 @@ use Rattle.ring_model.specs.Steps.{idle}
 use Rattle.ring_model.specs.WellFormed.{BodyIsNear, IsNearlyWellFormed, IsWellFormed, OpidsFit}
 use Rattle.ring_lawful.specs.EachStep.{EveryStepSendsWellFormed, IsGood, asks_proxy, asks_proxy_body}
 use Rattle.ring_lawful.proofs.Parts.{chain_from, counted_from}
-use Rattle.ring_lawful.proofs.Sends.{AllWell, Tells, answered_well, append_well, beat_well, cancel_well, chain_short, elect_well, found_near, mock_reply_well, mock_result_well, asked_well, opid_parts, reply_well, request_well, rotate_well, start_well, timeout_well, transfer_well, well_each, write_well}
+use Rattle.ring_lawful.proofs.Sends.{AllWell, Tells, opid_parts, well_each}
+use Rattle.ring_lawful.proofs.SendsAppends.{append_well, beat_well, chain_short}
+use Rattle.ring_lawful.proofs.SendsElections.{elect_well, reply_well, request_well}
+use Rattle.ring_lawful.proofs.SendsHandingOver.{answered_well, asked_well, cancel_well, mock_reply_well, mock_result_well, rotate_well, start_well, timeout_well, transfer_well, write_well}
+use Rattle.ring_lawful.proofs.SendsRelays.{found_near}
 use Rattle.ring_lawful.proofs.Sized.{Sized}
-use Rattle.ring_lawful.proofs.SizedRules.{found_fits}
+use Rattle.ring_lawful.proofs.SizedAppends.{found_fits}
 use Rattle.ring_lawful.proofs.SteadyAppend.{Near}
 use Rattle.ring_lawful.proofs.EachStep.{after_size, sized, tells}
 

@@ -23,7 +23,9 @@ use Rattle.ring_model.specs.declared.effects.Action.TheVariants as action
 use Rattle.ring_model.proofs.Lists.{cons_cases}
 use Rattle.ring_model.proofs.Invariant.{HasAcked, HasRole, History, IsHistory, IsLeader, IsNode, IsSealed, Nothing_yet, Sealed_at}
 use Rattle.ring_model.proofs.Growth.{agree_less}
-use Rattle.ring_model.proofs.Paths.{Applies, Ends, Engine, Goes_on, IsHeld, IsLed, MayReach, reach_less, Path, SameLog, done_join, elected, held_join, path_join, quiet_join}
+use Rattle.ring_model.proofs.Moves.{Applies, Engine, IsLed, MayReach, SameLog}
+use Rattle.ring_model.proofs.Paths.{Ends, Goes_on, Path, elected, reach_less}
+use Rattle.ring_model.proofs.HeldElections.{IsHeld, done_join, held_join, path_join, quiet_join}
 use Rattle.ring_model.proofs.Winning.{leader_commits}
 use Rattle.ring_model.proofs.Turns.{Holding, IsRow, Leads_now, Led_before, Sent_all}
 

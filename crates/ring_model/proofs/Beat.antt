@@ -56,7 +56,7 @@ direct_sent ring h id to n q d s k node r role le =
       subst (λ (w : List Entry). take (length (take n (drop q d.log))) (drop q w) ≡ take n (drop q d.log)) book (take_own n (drop q d.log)),
     )
 
-opids_length : (l : List Entry) → length (opids_of l) ≡ length l
+pub opids_length : (l : List Entry) → length (opids_of l) ≡ length l
 opids_length [] = refl
 opids_length (x ∷ l) = ap suc (opids_length l)
 

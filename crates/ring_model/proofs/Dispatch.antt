@@ -21,7 +21,8 @@ use Rattle.ring_model.proofs.Plain.{idle_row}
 use Rattle.ring_model.proofs.Elect.{elect_row, timeout_row}
 use Rattle.ring_model.proofs.OnRequest.{request_row}
 use Rattle.ring_model.proofs.OnReply.{reply_row}
-use Rattle.ring_model.proofs.OnAppend.{append_row, append_tears_not}
+use Rattle.ring_model.proofs.OnAppend.{append_row}
+use Rattle.ring_model.proofs.NeverTorn.{append_tears_not}
 use Rattle.ring_model.proofs.OnAnswer.{answered_row}
 use Rattle.ring_model.proofs.Relay.{relay_row}
 use Rattle.ring_model.proofs.Beat.{beat_row}

@@ -33,7 +33,9 @@ use Rattle.ring_model.proofs.Casting.{Longer, MayVote, with_cast}
 use Rattle.ring_model.proofs.Following.{agree_more}
 use Rattle.ring_model.proofs.Leading.{with_election}
 use Rattle.ring_model.proofs.Sending.{with_message}
-use Rattle.ring_model.proofs.Paths.{Ends, Goes_on, IsBefore, Leads, Path, Raises, Votes, before_join, before_quiet, done_join, path_join, path_keeps}
+use Rattle.ring_model.proofs.Moves.{Leads, Raises, Votes}
+use Rattle.ring_model.proofs.Paths.{Ends, Goes_on, Path, path_keeps}
+use Rattle.ring_model.proofs.HeldElections.{IsBefore, before_join, before_quiet, done_join, path_join}
 use Rattle.ring_model.proofs.Winning.{candidate_leads, reports_all}
 use Rattle.ring_model.proofs.Turns.{IsRow, Leads_not, Sends, Sends_on, Sent_all}
 use Rattle.ring_model.proofs.Advance.{Led_new, advance_row, seal_raise}

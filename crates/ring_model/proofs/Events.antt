@@ -1,149 +1,34 @@
--- Each event keeps the invariant: it makes at most one node act, whose step owes nothing, or it moves a cursor alone; and it holds just the elections that the definition finds.
-use Rattle.std.proofs.Common.{◌≡◌, ◌⊎◌, inl, inr, ℕ, ◌<◌, ◌≤◌, [], ◌∷◌, ◌++◌, ◌∙◌, if◌then◌else◌, Bool, List, None, Option, Some, ap, append_assoc, arith, false, length, refl, subst, suc, sym, take, true, zero}
-use Rattle.std.proofs.lemmas.List.{append-nil}
+-- Each event keeps the invariant and holds just the elections that the definition finds: it makes one node act, which owes nothing, or moves a cursor.
+use Rattle.std.proofs.Common.{◌≡◌, inl, inr, ℕ, [], ◌∷◌, ◌∙◌, if◌then◌else◌, Bool, List, None, Option, Some, ap, arith, false, refl, subst, suc, sym, take, true, zero}
 use Rattle.std.specs.List.{Contains}
 use Rattle.ring_types.specs.declared.entries.Entry.{Entry}
-use Rattle.ring_types.specs.Rings.{IsRing, Layout, is_member}
-use Rattle.ring_types.specs.declared.entries.Opid.{Opid}
+use Rattle.ring_types.specs.Rings.{Layout, is_member}
 use Rattle.ring_model.specs.declared.effects.Action.{Action}
-use Rattle.ring_model.specs.Safety.{Agree}
-use Rattle.ring_model.specs.Worlds.{ComeUp, Completion, Cut, GoDown, Handle, Rest, Task, Whole, WorldState, at_node, ended, first_world, given, given_to, handled, line_step, member_turn, message_at, moved, next_given, next_to, passed, restart_actions, skipped, turn, world_step}
+use Rattle.ring_model.specs.Worlds.{ComeUp, Completion, Cut, GoDown, Handle, Rest, Task, Whole, WorldState, at_node, ended, given, given_to, handled, line_step, member_turn, message_at, moved, next_given, next_to, passed, restart_actions, skipped, turn, world_step}
 use Rattle.ring_model.specs.declared.nodes.Durable.{Durable}
 use Rattle.ring_model.specs.Runs.{Election, Move, acted_elections, acted_tear, acting, acts_at, acts_next, acts_on, acts_to, event_elections, held_at, held_by, tear_at}
 use Rattle.ring_model.specs.declared.messages.Input.{Input}
 use Rattle.ring_model.specs.declared.worlds.Line.{Line}
 use Rattle.ring_model.specs.declared.messages.Message.{Message}
-use Rattle.ring_model.specs.Nodes.{Node, empty_durable, fresh_soft, recover, stray_opids}
+use Rattle.ring_model.specs.Nodes.{fresh_soft, recover}
 use Rattle.ring_model.specs.declared.nodes.Soft.{Soft}
 use Rattle.ring_model.specs.Actions.{all_done}
 use Rattle.ring_model.specs.Dispatch.{step}
-use Rattle.ring_model.specs.declared.effects.Action.TheVariants as action
 use Rattle.ring_model.specs.declared.messages.Input.TheVariants as input
 use Rattle.ring_model.specs.declared.worlds.Line.TheVariants as line
-use Rattle.ring_model.proofs.Lists.{none_contained}
-use Rattle.ring_model.proofs.Invariant.{As_leader, By_reply, HasAcked, History, IsNode, IsRunning, IsSealed, Nothing_yet}
-use Rattle.ring_model.proofs.Growth.{agree_less, agree_trans, grow_sealed}
-use Rattle.ring_model.proofs.Following.{agree_same}
-use Rattle.ring_model.proofs.Paths.{IsLed, SameLog}
-use Rattle.ring_model.proofs.Turns.{IsWorld, TurnedTo, cut_keeps, down_keeps, restart_keeps, whole_keeps}
+use Rattle.ring_model.proofs.Invariant.{History}
+use Rattle.ring_model.proofs.Moves.{SameLog}
+use Rattle.ring_model.proofs.Turns.{IsWorld}
+use Rattle.ring_model.proofs.Stepping.{cut_keeps, down_keeps, restart_keeps, whole_keeps}
 use Rattle.ring_model.proofs.Dispatch.{IsGiven, step_row, step_whole}
-use Rattle.ring_model.proofs.Telling.{KeepsPending, step_tells}
-use Rattle.ring_model.proofs.Told.{HoldsTold, same_told, told_by_silence, told_by_step}
-
--- the log of the acting node after some of its step's actions, or as it was where it went down, came up or rested
-abbrev pub OnWay : Layout → WorldState → Option (ℕ × Task) → List Entry → Type 0
-OnWay ring w None l = ⊥
-OnWay ring w (Some (id, Handle i)) l =
-    (s : Soft) × ((w.nodes id).soft ≡ Some s) × IsGiven w.messages id i × ((n : ℕ) × (l ≡ (all_done (w.nodes id).durable (take n (step ring id (w.nodes id).durable s i).plan.actions)).log))
-OnWay ring w (Some (id, GoDown)) l = l ≡ (w.nodes id).durable.log
-OnWay ring w (Some (id, ComeUp)) l = l ≡ (w.nodes id).durable.log
-OnWay ring w (Some (id, Rest)) l = l ≡ (w.nodes id).durable.log
-
--- from a world with a history: the invariant holds after, nothing that was committed or led is lost, and these elections were held
-pub record Carried (ring : Layout) (w v : WorldState) (h : History) (held : List Election) (acted : Option (ℕ × Task)) : Type 0 where
-  pub after : History
-  pub world : IsWorld ring v after
-  pub chosen : Agree (length w.chosen) w.chosen v.chosen
-  pub led : (e : Election) → Contains h.elections e → Contains after.elections e
-  pub sealed : (u c : ℕ) (l : List Entry) → IsSealed ring h u c l → IsSealed ring after u c l
-  pub elections : after.elections ≡ h.elections ++ held
-  pub grew : length w.chosen < length v.chosen → (id : ℕ) (task : Task) → acted ≡ Some (id, task) → IsLed after id (v.nodes id).durable.term
-  pub told : HoldsTold ring w h → HoldsTold ring v after
-  pub books : (e : Election) → Contains after.elections e → (Contains h.elections e × (after.book e.term ≡ h.book e.term)) ⊎ OnWay ring w acted (after.book e.term)
-
--- the same over more than one event
-pub record Joined (ring : Layout) (w v : WorldState) (h : History) (held : List Election) : Type 0 where
-  pub after : History
-  pub world : IsWorld ring v after
-  pub chosen : Agree (length w.chosen) w.chosen v.chosen
-  pub led : (e : Election) → Contains h.elections e → Contains after.elections e
-  pub sealed : (u c : ℕ) (l : List Entry) → IsSealed ring h u c l → IsSealed ring after u c l
-  pub elections : after.elections ≡ h.elections ++ held
-  pub told : HoldsTold ring w h → HoldsTold ring v after
-
--- the node that acted
-abbrev actor : Option (ℕ × Task) → ℕ
-actor None = 0
-actor (Some a) = a.0
-
-by_turn : (ring : Layout) (w v : WorldState) (h : History) (id : ℕ) (task : Task) (held : List Election) (acts : List Action) (x : TurnedTo ring w v h id held acts) → (HoldsTold ring w h → HoldsTold ring v x.after)
-    → ((l : List Entry) (n : ℕ) → l ≡ (all_done (w.nodes id).durable (take n acts)).log → OnWay ring w (Some (id, task)) l) → Carried ring w v h held (Some (id, task))
-by_turn ring w v h id task held acts x told way = record {
-  after = x.after;
-  world = x.world;
-  chosen = x.chosen;
-  led = x.grows.elections;
-  sealed = λ u c l y. grow_sealed ring id h x.after x.grows u u c l (omega arith) y;
-  elections = x.elections;
-  grew = λ more other t is. let same : id ≡ other = ap actor is in subst (λ (i : ℕ). IsLed x.after i (v.nodes i).durable.term) same (x.grew more);
-  told = told;
-  books = λ e in_e. elim (x.books e in_e) [ inl old ↦ inl old | inr new ↦ inr (way (x.after.book e.term) new.0 new.1) ];
-}
-
-abbrev no_actions : List Action
-no_actions = []
-
-take_none : (n : ℕ) → take n no_actions ≡ no_actions
-take_none zero = refl
-take_none (suc n) = refl
-
--- where nothing is done the log stays
-no_way : (d : Durable) (l : List Entry) (n : ℕ) → l ≡ (all_done d (take n [])).log → l ≡ d.log
-no_way d l n is = is ∙ ap (λ (actions : List Action). (all_done d actions).log) (take_none n)
-
--- a beginning of a beginning is a beginning
-take_twice : (n p : ℕ) (actions : List Action) → (m : ℕ) × (take n (take p actions) ≡ take m actions)
-take_twice zero p actions = (0, refl)
-take_twice (suc n) zero actions = (0, refl)
-take_twice (suc n) (suc p) [] = (0, refl)
-take_twice (suc n) (suc p) (a ∷ actions) = let x = take_twice n p actions in (suc x.0, ap (λ (rest : List Action). a ∷ rest) x.1)
-
-pub carried_join : (ring : Layout) (w v z : WorldState) (h : History) (a b : List Election) (acted : Option (ℕ × Task)) (x : Carried ring w v h a acted) → Joined ring v z x.after b → Joined ring w z h (a ++ b)
-carried_join ring w v z h a b acted x y = record {
-  after = y.after;
-  world = y.world;
-  chosen = agree_trans (length w.chosen) w.chosen v.chosen z.chosen x.chosen (agree_less (length w.chosen) (length v.chosen) v.chosen z.chosen x.chosen.right y.chosen);
-  led = λ e in_e. y.led e (x.led e in_e);
-  sealed = λ u c l q. y.sealed u c l (x.sealed u c l q);
-  elections = y.elections ∙ (ap (λ (e : List Election). e ++ b) x.elections ∙ append_assoc h.elections a b);
-  told = λ t. y.told (x.told t);
-}
-
--- where nodes, messages and the chosen sequence stay
-pub same_world : (ring : Layout) (w v : WorldState) (h : History) → v.nodes ≡ w.nodes → v.messages ≡ w.messages → v.chosen ≡ w.chosen → IsWorld ring w h → IsWorld ring v h
-same_world ring w v h nodes messages chosen k = record {
-  messages = k.messages ∙ sym messages;
-  chosen = k.chosen ∙ sym chosen;
-  history = k.history;
-  nodes = λ id. subst (λ (f : ℕ → Node). IsNode ring h id (f id).durable) (sym nodes) (k.nodes id);
-  running = subst (λ (f : ℕ → Node). (id : ℕ) (s : Soft) → (f id).soft ≡ Some s → IsRunning ring h id (f id).durable s) (sym nodes) k.running;
-  applied = λ id. subst (λ (f : ℕ → Node). (f id).durable.applied ≤ length h.chosen) (sym nodes) (k.applied id);
-}
-
--- an event that makes no node act, from a world that differs in its cursors alone
-passed_over : (ring : Layout) (w : WorldState) (h : History) (acted : Option (ℕ × Task)) → IsWorld ring w h → Carried ring w (passed w) h [] acted
-passed_over ring w h acted k = record {
-  after = h;
-  world = same_world ring w (passed w) h refl refl refl k;
-  chosen = agree_same (length w.chosen) w.chosen (omega arith);
-  led = λ e in_e. in_e;
-  sealed = λ u c l x. x;
-  elections = sym (append-nil h.elections);
-  grew = λ more id task is. absurd (omega arith);
-  told = same_told ring w (passed w) h refl refl;
-  books = λ e in_e. inl (in_e, refl);
-}
+use Rattle.ring_model.proofs.Telling.{step_tells}
+use Rattle.ring_model.proofs.Told.{same_told, told_by_silence, told_by_step}
+use Rattle.ring_model.proofs.Carried.{Carried, OnWay, by_turn, no_way, passed_over, same_world, take_twice}
+use Rattle.ring_model.proofs.Restarts.{partly}
 
 -- ---- what a task does
 restart_cut : (d : Durable) (count : ℕ) → SameLog d (all_done d (take count (restart_actions d)))
-restart_cut d count = go (stray_opids d) count
-  where
-    go : (o : List Opid) (n : ℕ) → SameLog d (all_done d (take n (elim o [ [] ↦ [] | o ∷ opids ↦ action.DropPairs (o ∷ opids) ∷ [] ])))
-    go [] zero = record { term = refl; votes = refl; log = refl; applied = refl }
-    go [] (suc n) = record { term = refl; votes = refl; log = refl; applied = refl }
-    go (o ∷ opids) zero = record { term = refl; votes = refl; log = refl; applied = refl }
-    go (o ∷ opids) (suc zero) = record { term = refl; votes = refl; log = refl; applied = refl }
-    go (o ∷ opids) (suc (suc n)) = record { term = refl; votes = refl; log = refl; applied = refl }
+restart_cut d = partly (SameLog d) d (record { term = refl; votes = refl; log = refl; applied = refl }) (λ opids is. record { term = refl; votes = refl; log = refl; applied = refl })
 
 handled_over : (ring : Layout) (w : WorldState) (h : History) (id : ℕ) (i : Input) (completion : Completion) (o : Option Soft) → (w.nodes id).soft ≡ o → IsWorld ring w h → IsGiven w.messages id i
     → Carried ring w (handled ring w id i completion (w.nodes id).durable o) h (held_at ring id (w.nodes id).durable o (Handle i) completion) (Some (id, Handle i))
@@ -216,7 +101,7 @@ member_over ring w h id task completion k given = go (is_member ring id)
     go false = passed_over ring w h (Some (id, task)) k
 
 -- ---- a line
-in_number : (ms : List Message) (k : ℕ) (m : Message) → message_at ms k ≡ Some m → Contains ms m
+pub in_number : (ms : List Message) (k : ℕ) (m : Message) → message_at ms k ≡ Some m → Contains ms m
 in_number ms zero m is = absurd cc
 in_number [] (suc k) m is = absurd cc
 in_number (x ∷ ms) (suc zero) m is = (zero, omega arith, cc)
@@ -241,7 +126,19 @@ moved_way ring w id number (Some (j, Rest)) l x = x
 
 -- a moved cursor changes nothing that is said of a world
 from_moved : (ring : Layout) (w z : WorldState) (h : History) (id number : ℕ) (held : List Election) (acted : Option (ℕ × Task)) → Carried ring (moved w id number) z h held acted → Carried ring w z h held acted
-from_moved ring w z h id number held acted x = record { books = λ e in_e. elim (x.books e in_e) [ inl old ↦ inl old | inr new ↦ inr (moved_way ring w id number acted (x.after.book e.term) new) ]; after = x.after; world = x.world; chosen = x.chosen; led = x.led; sealed = x.sealed; elections = x.elections; grew = x.grew; told = λ t. x.told (same_told ring w (moved w id number) h refl refl t) }
+from_moved ring w z h id number held acted x = record {
+  joined = record {
+    after = x.joined.after;
+    world = x.joined.world;
+    chosen = x.joined.chosen;
+    led = x.joined.led;
+    sealed = x.joined.sealed;
+    elections = x.joined.elections;
+    told = λ t. x.joined.told (same_told ring w (moved w id number) h refl refl t);
+  };
+  grew = x.grew;
+  books = λ e in_e. elim (x.books e in_e) [ inl old ↦ inl old | inr new ↦ inr (moved_way ring w id number acted (x.joined.after.book e.term) new) ];
+}
 
 acts_same : (ring : Layout) (w : WorldState) (id number : ℕ) (completion : Completion) (o : Option (ℕ × Task)) → acted_elections ring (moved w id number) completion o ≡ acted_elections ring w completion o
 acts_same ring w id number completion None = refl
@@ -340,49 +237,3 @@ line_whole ring w h (line.Skip node) k = member_whole ring w h node Rest k tt
 line_whole ring w h (line.Again node) k = given_to_whole ring w h node (w.cursors node) (message_at w.messages (w.cursors node)) refl k
 line_whole ring w h (line.Crash node) k = member_whole ring w h node GoDown k tt
 line_whole ring w h (line.Restart node) k = member_whole ring w h node ComeUp k tt
-
--- ---- the first world
-abbrev pub first_history : History
-first_history = record { elections = []; casts = []; book = λ t. []; messages = []; chosen = [] }
-
-no_acks : (v s p : ℕ) → HasAcked first_history v s p → ⊥
-no_acks v s p (As_leader e in_e t by le) = none_contained e in_e
-no_acks v s p (By_reply m q in_m by body le) = none_contained m in_m
-
-pub first_holds : (ring : Layout) → IsRing ring → IsWorld ring first_world first_history
-first_holds ring valid = record {
-  messages = refl;
-  chosen = refl;
-  history = record {
-    valid = valid;
-    elections = λ e in_e. absurd (none_contained e in_e);
-    one_leader = λ e f in_e in_f t. absurd (none_contained e in_e);
-    terms_once = λ j k e f at_j at_k t. absurd cc;
-    casts = λ c in_c. absurd (none_contained c in_c);
-    one_vote = λ c d in_c in_d v t. absurd (none_contained c in_c);
-    sent = λ m in_m. absurd (none_contained m in_m);
-    chosen = (0, Nothing_yet refl);
-  };
-  nodes = λ id. record {
-    log = record { entry = λ k some le. absurd (omega arith); rises = λ j k a b. (let z : j ≡ 0 = omega arith in rw z (omega arith)); below = omega arith };
-    led_below = λ e in_e by. absurd (none_contained e in_e);
-    led_log = λ e in_e by t. absurd (none_contained e in_e);
-    cast_below = λ c in_c by. absurd (none_contained c in_c);
-    cast_kept = λ c in_c by t. absurd (none_contained c in_c);
-    votes_cast = λ w in_w. absurd (none_contained w in_w);
-    dropped = λ c in_c by. absurd (none_contained c in_c);
-    between = λ c e in_c in_e a b t x y. absurd (none_contained c in_c);
-    acked_below = λ s p a. absurd (no_acks id s p a);
-    acked = λ s p a. absurd (no_acks id s p a);
-    applied = Nothing_yet refl;
-  };
-  running = λ id s up. let is : fresh_soft empty_durable ≡ s = cc in
-      subst (λ (o : Soft). IsRunning ring first_history id empty_durable o) is (record { sealed = Nothing_yet refl; chosen = omega arith; applied = omega arith; role = tt });
-  applied = λ id. omega arith;
-}
-
-pub first_told : (ring : Layout) → HoldsTold ring first_world first_history
-first_told ring = record {
-  pending = λ id s up. let is : fresh_soft empty_durable ≡ s = cc in subst (λ (o : Soft). KeepsPending [] o) is (record { none = λ same. refl; each = λ p in_p. absurd (none_contained p in_p) });
-  told = λ gtid opid term y. absurd (none_contained y.0 y.1);
-}

@@ -1,14 +1,13 @@
 -- The three computed values are what their statements say: by induction over the list, or down from the top.
-use Rattle.std.proofs.Common.{◌≡◌, ◌≢◌, ◌⊎◌, inl, inr, ℕ, ◌+◌, ◌-◌, ◌<◌, ◌≤◌, ◌==◌, ◌∙◌, if◌then◌else◌, Bool, List, [], ◌∷◌, Option, Some, None, ap, arith, false, length, refl, subst, suc, sym, take, true, zero}
+use Rattle.std.proofs.Common.{◌≡◌, ◌⊎◌, inl, inr, ℕ, ◌+◌, ◌-◌, ◌<◌, ◌≤◌, ◌==◌, ◌∙◌, if◌then◌else◌, Bool, List, [], ◌∷◌, Option, Some, None, arith, false, refl, subst, suc, sym, true, zero}
 use Rattle.std.specs.Prelude.{nat_le, slice_get}
 use Rattle.std.proofs.lemmas.Bool.{cases_eq}
 use Rattle.std.proofs.lemmas.Bool.Decides.{nat_tests}
 use Rattle.ring_types.specs.declared.entries.Entry.{Entry}
-use Rattle.ring_types.specs.declared.schemas.Schema.{Schema}
 use Rattle.ring_types.specs.Logs.{term_at}
 use Rattle.ring_types.specs.Sizes.{group_size}
 use Rattle.ring_model.specs.declared.effects.Tear.{Tear}
-use Rattle.ring_model.specs.Extremes.{BatchIsLongest, GreatestPasses, IsFirstTear, IsGreatest, IsLongest, TearIs, TearIsFirst}
+use Rattle.ring_model.specs.Extremes.{BatchIsLongest, GreatestPasses, IsGreatest, IsLongest, TearIs, TearIsFirst}
 use Rattle.ring_model.specs.Replication.{batch_length, first_tear}
 use Rattle.ring_model.specs.Steps.{greatest}
 

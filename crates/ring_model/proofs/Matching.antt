@@ -13,7 +13,7 @@ use Rattle.ring_model.proofs.Growth.{agree_less, agree_sym, agree_term, agree_tr
 use Rattle.ring_model.proofs.Cover.{committed_in_book}
 use Rattle.ring_model.proofs.Following.{IsFollowed, Merge, agree_take, cut_followed, log_match, log_take, merge, merged_is, more_followed, seal_follows}
 use Rattle.ring_model.proofs.Sending.{sealed_from_book}
-use Rattle.ring_model.proofs.Paths.{MayFollow}
+use Rattle.ring_model.proofs.Moves.{MayFollow}
 
 module _ (ring : Layout) (h : History) (id : ℕ) (d : Durable) (k : IsHistory ring h) (n : IsNode ring h id d)
     (leader : ℕ) (prev : Opid) (mc : ℕ) (es : List Entry) (s : IsStretch ring h d.term leader prev mc (length es)) (win : take (length es) (drop prev.position (h.book d.term)) ≡ es)

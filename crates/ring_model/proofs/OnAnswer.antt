@@ -31,7 +31,7 @@ use Rattle.ring_model.proofs.Winning.{acked_less}
 use Rattle.ring_model.proofs.Turns.{IsRow, Sends}
 use Rattle.ring_model.proofs.Advance.{Led_on, advance_row}
 use Rattle.ring_model.proofs.Plain.{idle_row, raise_row, role_sent, sealed_sent, sends_more}
-use Rattle.ring_model.proofs.OnAppend.{greater_by, smaller_low}
+use Rattle.ring_model.proofs.GreaterOf.{greater_both, greater_by, smaller_low}
 
 heard_matched : (h : History) (from t p : ℕ) (ok : Bool) (peers : List Peer) → ((x : Peer) → Contains peers x → 0 < x.matched → HasAcked h x.node t x.matched) → (ok ≡ true → HasAcked h from t p)
     → (y : Peer) → Contains (heard_among peers from ok p) y → 0 < y.matched → HasAcked h y.node t y.matched
@@ -60,14 +60,7 @@ heard_matched h from t p ok (x ∷ peers) f g y c some = go (x.node == from) ref
       | inr there ↦ ih y there some
     ]
 
-greater_both : (a b : ℕ) → (a ≤ greater_of a b) × (b ≤ greater_of a b)
-greater_both a b = go (nat_le a b) refl
-  where
-    go : (c : Bool) → nat_le a b ≡ c → (a ≤ greater_of a b) × (b ≤ greater_of a b)
-    go true is = rw is (grind (arith, nat_tests, is), omega arith)
-    go false is = rw is (omega arith, grind (arith, nat_tests, is))
-
-heard_one : (x : Peer) (ok : Bool) (p n : ℕ) → p ≤ n → (x.matched < x.next) × (x.next ≤ suc n) → ((heard_from x ok p).matched < (heard_from x ok p).next) × ((heard_from x ok p).next ≤ suc n)
+pub heard_one : (x : Peer) (ok : Bool) (p n : ℕ) → p ≤ n → (x.matched < x.next) × (x.next ≤ suc n) → ((heard_from x ok p).matched < (heard_from x ok p).next) × ((heard_from x ok p).next ≤ suc n)
 heard_one x true p n le f =
     let b = greater_both x.next (suc p) in
     (greater_by (λ (w : ℕ). w < greater_of x.next (suc p)) x.matched p (omega (arith, b.0, f.0)) (omega (arith, b.1)), greater_by (λ (w : ℕ). w ≤ suc n) x.next (suc p) f.1 (omega arith))

@@ -1,12 +1,9 @@
--- A member that takes a leader's Append: no place that it committed differs from the leader's book, so it is never torn, and what it cuts and adds follows the book.
-use Rattle.std.proofs.Common.{◌≡◌, ℕ, ◌+◌, ◌-◌, ◌<◌, ◌≤◌, ◌==◌, ◌⊎◌, ◌||◌, [], ◌∷◌, ◌++◌, ◌∙◌, if◌then◌else◌, Bool, List, None, Option, Some, ap, arith, drop, false, inl, inr, length, refl, subst, suc, sym, take, true}
-use Rattle.std.proofs.lemmas.Bool.{cases_lt}
-use Rattle.std.proofs.lemmas.List.{length-take-le, take_all}
+-- A member that takes a leader's Append owes nothing: it refuses and leaves its log, or takes in what follows the leader's book.
+use Rattle.std.proofs.Common.{◌≡◌, ℕ, ◌+◌, ◌-◌, ◌<◌, ◌≤◌, ◌==◌, ◌⊎◌, [], ◌∷◌, ◌++◌, ◌∙◌, if◌then◌else◌, Bool, List, None, Option, Some, ap, arith, drop, false, inl, inr, length, refl, subst, sym, take, true}
 use Rattle.std.proofs.lemmas.Bool.Decides.{nat_tests}
-use Rattle.std.specs.Prelude.{nat_le, nat_lt}
+use Rattle.std.specs.Prelude.{nat_lt}
 use Rattle.ring_types.specs.declared.entries.Entry.{Entry}
-use Rattle.ring_types.specs.Rings.{Layout, runs_engine}
-use Rattle.ring_types.specs.declared.entries.Opid.{Opid}
+use Rattle.ring_types.specs.Rings.{Layout}
 use Rattle.ring_types.specs.Logs.{term_at}
 use Rattle.ring_model.specs.declared.effects.Action.{Action}
 use Rattle.ring_model.specs.Safety.{Agree}
@@ -19,183 +16,25 @@ use Rattle.ring_model.specs.declared.nodes.Role.{Role}
 use Rattle.ring_model.specs.declared.effects.Say.{Say}
 use Rattle.ring_model.specs.declared.nodes.Soft.{Soft}
 use Rattle.ring_model.specs.declared.effects.Tear.{Tear}
-use Rattle.ring_model.specs.Replication.{accept, append_tear, first_tear, follow_append, kept_position, leads_it, match_append, on_append, outgrows, reply, roll_back, take_in, tear_in, terms_of, unmatched}
-use Rattle.ring_model.specs.Actions.{all_done, done}
+use Rattle.ring_model.specs.Replication.{accept, follow_append, kept_position, leads_it, match_append, on_append, outgrows, reply, take_in, tear_in, unmatched}
+use Rattle.ring_model.specs.Actions.{all_done}
 use Rattle.ring_model.specs.Steps.{demoted, follow_actions, greater_of, idle, smaller_of, stepped, unknowns}
 use Rattle.ring_model.specs.Nodes.{is_leader}
 use Rattle.ring_model.specs.declared.effects.Action.TheVariants as action
 use Rattle.ring_model.specs.declared.messages.Body.TheVariants as body
-use Rattle.ring_model.proofs.Invariant.{HasRole, History, IsBookedLog, IsHistory, IsNode, IsRunning, IsSealed, IsSent, IsStretch}
-use Rattle.ring_model.proofs.Growth.{agree_sym, agree_term, agree_trans}
+use Rattle.ring_model.proofs.Invariant.{HasRole, History, IsHistory, IsNode, IsRunning, IsSealed, IsSent, IsStretch}
+use Rattle.ring_model.proofs.Growth.{agree_sym}
 use Rattle.ring_model.proofs.Casting.{raise_keeps}
-use Rattle.ring_model.proofs.Following.{IsFollowed, Merge, agree_more, agree_take, log_take, merged_is, window_cons}
 use Rattle.ring_model.proofs.Sending.{with_message}
-use Rattle.ring_model.proofs.Paths.{Cuts, Ends, Extends, Goes_on, IsBefore, MayFollow, Path, Raises, SameLog, before_quiet, done_join, elected, path_join, quiet_join, same_node}
-use Rattle.ring_model.proofs.Matching.{commit_new, commit_old, holds_old, merged, never_torn, not_mine, prev_agrees}
+use Rattle.ring_model.proofs.Moves.{Raises}
+use Rattle.ring_model.proofs.Paths.{Ends, Goes_on, Path, elected}
+use Rattle.ring_model.proofs.HeldElections.{IsBefore, before_quiet, done_join, path_join, quiet_join}
+use Rattle.ring_model.proofs.Matching.{commit_new, prev_agrees}
 use Rattle.ring_model.proofs.Turns.{IsRow, Leads_not, Led_before, Sends, Sends_on, Sent_all}
-use Rattle.ring_model.proofs.Advance.{QuietPath, engine_action, follow_path, no_actions, seal_raise}
+use Rattle.ring_model.proofs.Advance.{follow_path, seal_raise}
 use Rattle.ring_model.proofs.Plain.{idle_row, role_sent, sealed_sent}
-
--- ---- what the follower's log becomes
-record TakenIn (ring : Layout) (id : ℕ) (h : History) (e : Durable) (steps : List Action) (m c : ℕ) : Type 0 where
-  path : Path ring id h e steps h
-  quiet : elected ring id h h e steps path ≡ []
-  term : (all_done e steps).term ≡ e.term
-  applied : (all_done e steps).applied ≡ e.applied
-  agrees : Agree m (all_done e steps).log (h.book e.term)
-  sealed : IsSealed ring h e.term c (all_done e steps).log
-
-roll_path : (ring : Layout) (me id p : ℕ) (h : History) (d : Durable) → QuietPath ring id h d (roll_back ring me p)
-roll_path ring me id p h d = go (runs_engine ring me)
-  where
-    go : (b : Bool) → QuietPath ring id h d (if b then action.RollBackAfter p ∷ [] else [])
-    go true = engine_action ring id h d (action.RollBackAfter p) (record { term = refl; votes = refl; log = refl; applied = refl })
-    go false = no_actions ring id h d
-
-follow_at : (ring : Layout) (h : History) (id : ℕ) (d e : Durable) (l : List Entry) → SameLog d e → MayFollow ring h id d l → MayFollow ring h id e l
-follow_at ring h id d e l s x = record {
-  leader = x.leader;
-  led = x.led;
-  of_term = x.of_term ∙ sym s.term;
-  not_mine = x.not_mine;
-  follows = subst (λ (t : ℕ). IsFollowed e.log l (h.book t)) (sym s.term) (subst (λ (w : List Entry). IsFollowed w l (h.book d.term)) (sym s.log) x.follows);
-  log = subst (λ (t : ℕ). IsBookedLog ring h t l) (sym s.term) x.log;
-}
-
-module _ (ring : Layout) (h : History) (id : ℕ) (e : Durable) (k : IsHistory ring h) (n : IsNode ring h id e)
-    (leader : ℕ) (prev : Opid) (mc : ℕ) (es : List Entry) (s : IsStretch ring h e.term leader prev mc (length es)) (win : take (length es) (drop prev.position (h.book e.term)) ≡ es)
-    (foreign : leader ≡ id → ⊥) (a : Agree prev.position e.log (h.book e.term)) (c : ℕ) (sealed : IsSealed ring h e.term c e.log) where
-  -- the log with what it did not keep: everything up to a conflict stays
-  final_follows : (kept : ℕ) (rest : List Entry) → kept ≤ length e.log → (0 < length rest → kept < length e.log → term_at e.log (suc kept) ≡ term_at (h.book e.term) (suc kept) → ⊥) → 0 < length rest
-      → IsFollowed e.log (take kept e.log ++ rest) (h.book e.term)
-  final_follows kept rest le conflict some j in_j = elim (cases_lt kept j) [
-    | inl lt ↦ inr (λ x. conflict some (omega arith) (agree_term (suc kept) j e.log (h.book e.term) (omega arith) x))
-    | inr ge ↦ inl (agree_trans j e.log (take kept e.log) (take kept e.log ++ rest) (agree_take j kept e.log ge le) (agree_more j (take kept e.log) rest (omega (arith, length-take-le kept e.log le))))
-  ]
-
-  taken_in : (rest : List Entry) → rest ≡ unmatched e.log prev.position es → TakenIn ring id h e (take_in ring id e (kept_position prev es rest) rest) (prev.position + length es) c
-  taken_in [] is = record {
-    path = Ends;
-    quiet = refl;
-    term = refl;
-    applied = refl;
-    agrees = holds_old ring h id e k n leader prev mc es s win foreign a (sym (ap length is));
-    sealed = sealed;
-  }
-  taken_in (x ∷ rest) is = go (nat_lt (kept_position prev es (x ∷ rest)) (length e.log)) refl
-    where
-      m : Merge e.log (h.book e.term) prev.position es (x ∷ rest)
-      m = subst (λ (w : List Entry). Merge e.log (h.book e.term) prev.position es w) (sym is) (merged ring h id e k n leader prev mc es s win foreign a)
-
-      kept_is : kept_position prev es (x ∷ rest) ≡ m.kept
-      kept_is = omega (arith, m.count, m.low)
-
-      w_is : take m.kept e.log ++ (x ∷ rest) ≡ take (prev.position + length es) (h.book e.term)
-      w_is = merged_is e.log (h.book e.term) es (x ∷ rest) prev.position m s.fits
-
-      new_log : IsBookedLog ring h e.term (take m.kept e.log ++ (x ∷ rest))
-      new_log = subst (IsBookedLog ring h e.term) (sym w_is) (log_take ring h e.term (prev.position + length es) (h.book e.term) s.fits
-          (subst (λ (t : ℕ). IsBookedLog ring h t (h.book t)) s.of_term (k.elections s.election s.led).book))
-
-      new_agrees : Agree (prev.position + length es) (take m.kept e.log ++ (x ∷ rest)) (h.book e.term)
-      new_agrees = subst (λ (l : List Entry). Agree (prev.position + length es) l (h.book e.term)) (sym w_is)
-          (agree_sym (prev.position + length es) (h.book e.term) (take (prev.position + length es) (h.book e.term)) (agree_take (prev.position + length es) (prev.position + length es) (h.book e.term) (omega arith) s.fits))
-
-      new_follows : IsFollowed e.log (take m.kept e.log ++ (x ∷ rest)) (h.book e.term)
-      new_follows = final_follows m.kept (x ∷ rest) m.agree.left m.conflict (omega arith)
-
-      new_sealed : IsSealed ring h e.term c (take m.kept e.log ++ (x ∷ rest))
-      new_sealed = commit_old ring h id e k n leader prev mc es s win foreign a c (take m.kept e.log ++ (x ∷ rest)) sealed new_follows new_log
-
-      may_cut : MayFollow ring h id e (take m.kept e.log)
-      may_cut = record {
-        leader = s.election;
-        led = s.led;
-        of_term = s.of_term;
-        not_mine = not_mine ring h id e k n leader prev mc es s win foreign;
-        follows = λ j in_j. elim (cases_lt m.kept j) [
-          | inl lt ↦ inr (λ y. m.conflict (omega arith) (omega arith) (agree_term (suc m.kept) j e.log (h.book e.term) (omega arith) y))
-          | inr ge ↦ inl (agree_take j m.kept e.log ge m.agree.left)
-        ];
-        log = log_take ring h e.term m.kept e.log m.agree.left n.log;
-      }
-
-      may_add : MayFollow ring h id (record e { log = take m.kept e.log }) (take m.kept e.log ++ (x ∷ rest))
-      may_add = record {
-        leader = s.election;
-        led = s.led;
-        of_term = s.of_term;
-        not_mine = not_mine ring h id e k n leader prev mc es s win foreign;
-        follows = λ j in_j. inl (agree_more j (take m.kept e.log) (x ∷ rest) in_j);
-        log = new_log;
-      }
-
-      cut : TakenIn ring id h e (action.Truncate m.kept ∷ (roll_back ring id m.kept ++ (action.Append (x ∷ rest) ∷ []))) (prev.position + length es) c
-      cut =
-          let f : Durable = done e (action.Truncate m.kept) in
-          let r = roll_path ring id id m.kept h f in
-          let b : Durable = all_done f (roll_back ring id m.kept) in
-          let j = done_join f (roll_back ring id m.kept) (action.Append (x ∷ rest) ∷ []) in
-          let l_is : b.log ≡ take m.kept e.log = r.same.log in
-          let to : MayFollow ring h id b (b.log ++ (x ∷ rest)) = subst (λ (l : List Entry). MayFollow ring h id b (l ++ (x ∷ rest))) (sym l_is) (follow_at ring h id f b (take m.kept e.log ++ (x ∷ rest)) r.same may_add) in
-          let log_is : (all_done e (action.Truncate m.kept ∷ (roll_back ring id m.kept ++ (action.Append (x ∷ rest) ∷ [])))).log ≡ take m.kept e.log ++ (x ∷ rest) =
-          ap (λ (w : Durable). w.log) j ∙ ap (λ (l : List Entry). l ++ (x ∷ rest)) l_is in
-          record {
-            path = Goes_on (Cuts m.kept refl may_cut refl) (path_join ring id h h h f (roll_back ring id m.kept) (action.Append (x ∷ rest) ∷ []) r.path (Goes_on (Extends (x ∷ rest) refl to refl) Ends));
-            quiet = quiet_join ring id h h h f (roll_back ring id m.kept) (action.Append (x ∷ rest) ∷ []) r.path (Goes_on (Extends (x ∷ rest) refl to refl) Ends) r.quiet refl;
-            term = ap (λ (w : Durable). w.term) j ∙ r.same.term;
-            applied = ap (λ (w : Durable). w.applied) j ∙ r.same.applied;
-            agrees = subst (λ (l : List Entry). Agree (prev.position + length es) l (h.book e.term)) (sym log_is) new_agrees;
-            sealed = subst (λ (l : List Entry). IsSealed ring h e.term c l) (sym log_is) new_sealed;
-          }
-
-      go : (b : Bool) → nat_lt (kept_position prev es (x ∷ rest)) (length e.log) ≡ b → TakenIn ring id h e (take_in ring id e (kept_position prev es (x ∷ rest)) (x ∷ rest)) (prev.position + length es) c
-      go true y = rw y (rw kept_is cut)
-      go false y =
-          let all : take m.kept e.log ≡ e.log = (let z : length e.log ≤ kept_position prev es (x ∷ rest) = grind (arith, nat_tests, y) in take_all m.kept e.log (omega (arith, kept_is, z))) in
-          rw y (record {
-            path = Goes_on (Extends (x ∷ rest) refl (record {
-              leader = s.election;
-              led = s.led;
-              of_term = s.of_term;
-              not_mine = not_mine ring h id e k n leader prev mc es s win foreign;
-              follows = λ j in_j. inl (agree_more j e.log (x ∷ rest) in_j);
-              log = subst (λ (l : List Entry). IsBookedLog ring h e.term (l ++ (x ∷ rest))) all new_log;
-            }) refl) Ends;
-            quiet = refl {a = []};
-            term = refl;
-            applied = refl;
-            agrees = subst (λ (l : List Entry). Agree (prev.position + length es) (l ++ (x ∷ rest)) (h.book e.term)) all new_agrees;
-            sealed = subst (λ (l : List Entry). IsSealed ring h e.term c (l ++ (x ∷ rest))) all new_sealed;
-          })
-
--- what is taken in depends on the log alone
-take_in_same : (ring : Layout) (me kept : ℕ) (d e : Durable) (rest : List Entry) → e.log ≡ d.log → take_in ring me e kept rest ≡ take_in ring me d kept rest
-take_in_same ring me kept d e [] is = refl
-take_in_same ring me kept d e (x ∷ rest) is =
-    ap (λ (l : List Entry). if nat_lt kept (length l) then action.Truncate kept ∷ (roll_back ring me kept ++ (action.Append (x ∷ rest) ∷ [])) else action.Append (x ∷ rest) ∷ []) is
-
-pub smaller_low : (a b : ℕ) → (smaller_of a b ≤ a) × (smaller_of a b ≤ b)
-smaller_low a b = go (nat_le a b) refl
-  where
-    go : (c : Bool) → nat_le a b ≡ c → (smaller_of a b ≤ a) × (smaller_of a b ≤ b)
-    go true is = rw is (omega arith, grind (arith, nat_tests, is))
-    go false is = rw is (grind (arith, nat_tests, is), omega arith)
-
--- what holds of both holds of the greater
-pub greater_by : (P : ℕ → Type 0) (a b : ℕ) → P a → P b → P (greater_of a b)
-greater_by P a b x y = go (nat_le a b) refl
-  where
-    go : (c : Bool) → nat_le a b ≡ c → P (greater_of a b)
-    go true is = subst P (sym (let z : greater_of a b ≡ b = rw is refl in z)) y
-    go false is = subst P (sym (let z : greater_of a b ≡ a = rw is refl in z)) x
-
-greater_high : (a b : ℕ) → a ≤ greater_of a b
-greater_high a b = go (nat_le a b) refl
-  where
-    go : (c : Bool) → nat_le a b ≡ c → a ≤ greater_of a b
-    go true is = rw is (grind (arith, nat_tests, is))
-    go false is = rw is (omega arith)
+use Rattle.ring_model.proofs.GreaterOf.{greater_both, greater_by, smaller_low}
+use Rattle.ring_model.proofs.TakingIn.{TakenIn, take_in_same, taken_in}
 
 refusal_sent : (ring : Layout) (h : History) (id to t p : ℕ) (d : Durable) → Sends ring id d h (reply id to t false p ∷ []) (with_message h (reply id to t false p))
 refusal_sent ring h id to t p d = Sends_on {m = reply id to t false p} (λ bad. absurd (let z : false ≡ true = bad in cc)) (record { from = refl; answers = λ u v bad. absurd (let z : false ≡ true = ap is_ok bad in cc) }) Sent_all
@@ -243,7 +82,7 @@ accept_row ring h id sent d o s first says k p before n is_t same_log role seale
     (greater_by (λ (b : ℕ). IsSealed ring h e.term b f.log) s.commit (smaller_of sent.commit m) x.sealed
     (commit_new ring h id e k n sent.leader sent.prev sent.commit sent.entries stretch win foreign a (smaller_of sent.commit m) f.log low.0 low.1 x.agrees)) in
     let within : c ≤ length h.chosen = greater_by (λ (b : ℕ). b ≤ length h.chosen) s.commit (smaller_of sent.commit m) low_chosen (omega (arith, low.0, stretch.chosen)) in
-    let y = follow_path ring id id h f c (omega (arith, x.applied, greater_high s.commit (smaller_of sent.commit m))) new (inl within) in
+    let y = follow_path ring id id h f c (omega (arith, x.applied, (greater_both s.commit (smaller_of sent.commit m)).0)) new (inl within) in
     let g : Durable = all_done f (follow_actions ring id f c) in
     let j : all_done d (first ++ (acts ++ follow_actions ring id f c)) ≡ g = done_join d first (acts ++ follow_actions ring id f c) ∙ done_join e acts (follow_actions ring id f c) in
     let tail : Path ring id h e (acts ++ follow_actions ring id f c) h = path_join ring id h h h e acts (follow_actions ring id f c) x.path y.path in
@@ -344,51 +183,3 @@ append_row ring h id sent d s k n r told foreign = go (outgrows d sent) (nat_lt 
     go false false x true t = idle_row ring h id d s r
     go false false x false (Some t) = idle_row ring h id d s r
     go false false x false None = follow_row ring h id sent d s x k n r told foreign
-
--- ---- never torn
--- a stretch of a book with which the log agrees up to its commit count is not torn there
-no_tear : (log b : List Entry) (commit q : ℕ) (es : List Entry) → q + length es ≤ length b → es ≡ take (length es) (drop q b) → ((j : ℕ) → j ≤ commit → term_at log j ≡ term_at b j) → first_tear log commit (suc q) (terms_of es) ≡ None
-no_tear log b commit q [] fits win same = refl
-no_tear log b commit q (e ∷ es) fits win same =
-    go (nat_le (suc q) commit) refl (term_at log (suc q) == e.opid.term) refl (no_tear log b commit (suc q) es (omega arith) (window_cons q b e es (omega arith) win).1 same)
-  where
-    term_is : e.opid.term ≡ term_at b (suc q)
-    term_is = (window_cons q b e es (omega arith) win).0
-
-    go : (a : Bool) → nat_le (suc q) commit ≡ a → (c : Bool) → (term_at log (suc q) == e.opid.term) ≡ c → first_tear log commit (suc (suc q)) (terms_of es) ≡ None
-        → (if a then (if c then first_tear log commit (suc (suc q)) (terms_of es) else Some (record { position = suc q; kept_term = term_at log (suc q); sent_term = e.opid.term })) else None) ≡ None
-    go false x c y rest = refl
-    go true x true y rest = rest
-    go true x false y rest = absurd (let le : suc q ≤ commit = grind (arith, nat_tests, x) in let is : term_at log (suc q) ≡ e.opid.term = same (suc q) le ∙ sym term_is in grind (arith, nat_tests, y, is))
-
-tear_none : (ring : Layout) (h : History) (id : ℕ) (sent : Append) (d : Durable) (s : Soft) → nat_lt sent.term d.term ≡ false → IsHistory ring h → IsNode ring h id d → IsRunning ring h id d s
-    → IsSent ring h sent.leader id (body.Append sent) → (sent.leader ≡ id → ⊥) → tear_in d s sent ≡ None
-tear_none ring h id sent d s x k n r told foreign = go (nat_le sent.prev.position s.commit) refl (term_at d.log sent.prev.position == sent.prev.term) refl
-  where
-    up : d.term ≤ sent.term
-    up = grind (arith, nat_tests, x)
-
-    raised : IsNode ring h id (record d { term = sent.term })
-    raised = elim (cases_lt d.term sent.term) [
-      | inl lt ↦ raise_keeps ring h id sent.term d lt n
-      | inr ge ↦ same_node ring h id d (record d { term = sent.term }) (record { term = (let z : sent.term ≡ d.term = omega (arith, up) in z); votes = refl; log = refl; applied = refl }) n
-    ]
-
-    same : (j : ℕ) → j ≤ s.commit → term_at d.log j ≡ term_at (h.book sent.term) j
-    same = never_torn ring h id (record d { term = sent.term }) k raised sent.leader sent.prev sent.commit sent.entries told.0 told.1 foreign s.commit (seal_raise ring h d.term sent.term s.commit d.log up r.sealed)
-
-    go : (a : Bool) → nat_le sent.prev.position s.commit ≡ a → (c : Bool) → (term_at d.log sent.prev.position == sent.prev.term) ≡ c
-        → (if a then (if c then first_tear d.log s.commit (suc sent.prev.position) (terms_of sent.entries) else Some (record { position = sent.prev.position; kept_term = term_at d.log sent.prev.position; sent_term = sent.prev.term })) else None) ≡ None
-    go false y c z = refl
-    go true y true z = no_tear d.log (h.book sent.term) s.commit sent.prev.position sent.entries told.0.fits (sym told.1) same
-    go true y false z = absurd (let le : sent.prev.position ≤ s.commit = grind (arith, nat_tests, y) in let is : term_at d.log sent.prev.position ≡ sent.prev.term = same sent.prev.position le ∙ told.0.prev_term in grind (arith, nat_tests, z, is))
-
-pub append_tears_not : (ring : Layout) (h : History) (id : ℕ) (sent : Append) (d : Durable) (s : Soft) → IsHistory ring h → IsNode ring h id d → IsRunning ring h id d s
-    → IsSent ring h sent.leader id (body.Append sent) → (sent.leader ≡ id → ⊥) → append_tear d s sent ≡ None
-append_tears_not ring h id sent d s k n r told foreign = go (outgrows d sent) (nat_lt sent.term d.term) refl (leads_it d s sent)
-  where
-    go : (a b : Bool) → nat_lt sent.term d.term ≡ b → (c : Bool) → (if a || b || c then None else tear_in d s sent) ≡ None
-    go true b x c = refl
-    go false true x c = refl
-    go false false x true = refl
-    go false false x false = tear_none ring h id sent d s x k n r told foreign

@@ -29,7 +29,9 @@ use Rattle.ring_model.proofs.Invariant.{Cast, HasRole, History, IsGrant, IsHisto
 use Rattle.ring_model.proofs.Growth.{Grows, grow_grant, grow_sealed, leader_stays}
 use Rattle.ring_model.proofs.Casting.{IsUpToDate, Later, Longer, MayVote, raise_keeps, with_cast}
 use Rattle.ring_model.proofs.Sending.{with_message}
-use Rattle.ring_model.proofs.Paths.{Ends, Goes_on, IsBefore, Path, Raises, Votes, before_quiet, done_join, elected, path_join, path_keeps, quiet_join}
+use Rattle.ring_model.proofs.Moves.{Raises, Votes}
+use Rattle.ring_model.proofs.Paths.{Ends, Goes_on, Path, elected, path_keeps}
+use Rattle.ring_model.proofs.HeldElections.{IsBefore, before_quiet, done_join, path_join, quiet_join}
 use Rattle.ring_model.proofs.Winning.{kept_vote, reports_all}
 use Rattle.ring_model.proofs.Turns.{Holding, IsRow, Leads_not, Led_before, Sends, Sends_on, Sent_all}
 use Rattle.ring_model.proofs.Advance.{leader_at, seal_raise}

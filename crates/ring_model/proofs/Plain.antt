@@ -18,7 +18,8 @@ use Rattle.ring_model.proofs.Lists.{in_cons}
 use Rattle.ring_model.proofs.Invariant.{As_leader, By_reply, HasRole, History, IsCandidate, IsHistory, IsNode, IsRunning, IsSealed, IsSent, Nothing_yet, Sealed_at, ok_reply}
 use Rattle.ring_model.proofs.Growth.{sent_stays}
 use Rattle.ring_model.proofs.Sending.{MayAnswer, sent_grows, sent_history, sent_node, with_message}
-use Rattle.ring_model.proofs.Paths.{Ends, Goes_on, Raises}
+use Rattle.ring_model.proofs.Moves.{Raises}
+use Rattle.ring_model.proofs.Paths.{Ends, Goes_on}
 use Rattle.ring_model.proofs.Turns.{Holding, IsRow, Leads_not, Led_before, Sends, Sends_on, Sent_all}
 use Rattle.ring_model.proofs.Advance.{leader_at, seal_raise}
 

@@ -15,7 +15,9 @@ use Rattle.ring_model.proofs.Cover.{is_election, leaders_covered}
 use Rattle.ring_model.proofs.Following.{agree_same, log_match}
 use Rattle.ring_model.proofs.Turns.{IsWorld, in_chosen}
 use Rattle.ring_model.proofs.Told.{leader_in, sealed_in_book, told_stands}
-use Rattle.ring_model.proofs.Events.{Joined, carried_join, event_over, first_history, first_holds, first_told, line_whole}
+use Rattle.ring_model.proofs.Carried.{Joined, carried_join}
+use Rattle.ring_model.proofs.Events.{event_over, line_whole}
+use Rattle.ring_model.proofs.FirstWorld.{first_history, first_holds, first_told}
 
 pub run_over : (ring : Layout) (w : WorldState) (h : History) (run : List Move) → IsWorld ring w h → Joined ring w (world_from ring w run) h (elections_from ring w run)
 run_over ring w h [] k = record {
@@ -30,7 +32,7 @@ run_over ring w h [] k = record {
 run_over ring w h (m ∷ run) k =
     let x = event_over ring w h m k in
     carried_join ring w (world_step ring w m.event m.completion) (world_from ring (world_step ring w m.event m.completion) run) h (event_elections ring w m) (elections_from ring (world_step ring w m.event m.completion) run) (acting w m.event.what) x
-    (run_over ring (world_step ring w m.event m.completion) x.after run x.world)
+    (run_over ring (world_step ring w m.event m.completion) x.joined.after run x.joined.world)
 
 world_join : (ring : Layout) (w : WorldState) (before after : List Move) → world_from ring w (before ++ after) ≡ world_from ring (world_from ring w before) after
 world_join ring w [] after = refl
@@ -122,8 +124,8 @@ chosen_by_leader ring run valid before m is more id task acts =
     let y = event_over ring w x.after m x.world in
     let at : world_from ring first_world run ≡ v = ap (world_from ring first_world) is ∙ world_join ring first_world before (m ∷ []) in
     let led = y.grew (subst (λ (z : WorldState). length w.chosen < length z.chosen) at more) id task acts in
-    let held : y.after.elections ≡ elections_from ring first_world run =
-    y.elections
+    let held : y.joined.after.elections ≡ elections_from ring first_world run =
+    y.joined.elections
     ∙ (ap (λ (e : List Election). e ++ event_elections ring w m) x.elections
     ∙ (ap (λ (e : List Election). elections_from ring first_world before ++ e) (sym (append-nil (event_elections ring w m)))
     ∙ (sym (elections_join ring first_world before (m ∷ [])) ∙ ap (elections_from ring first_world) (sym is)))) in

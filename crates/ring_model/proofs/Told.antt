@@ -32,7 +32,7 @@ use Rattle.ring_model.proofs.Following.{agree_same, entry_at_take}
 use Rattle.ring_model.proofs.Sending.{sealed_agree}
 use Rattle.ring_model.proofs.Turns.{IsWorld, TurnedTo, node_here, node_other, seal_within}
 use Rattle.ring_model.proofs.Advance.{seal_less}
-use Rattle.ring_model.proofs.Telling.{IsEntryFor, KeepsPending, MayTell, Tells}
+use Rattle.ring_model.proofs.TellingLeader.{IsEntryFor, KeepsPending, MayTell, Tells}
 
 pub record IsToldOf (ring : Layout) (h : History) (gtid : Gtid) (opid : Opid) (term : ℕ) : Type 0 where
   pub election : Election

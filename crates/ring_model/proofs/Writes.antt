@@ -20,7 +20,9 @@ use Rattle.ring_model.specs.declared.effects.What.TheVariants as what
 use Rattle.ring_model.proofs.Invariant.{HasRole, History, IsHistory, IsLeader, IsNode, IsRunning, IsSealed}
 use Rattle.ring_model.proofs.Growth.{leader_stays}
 use Rattle.ring_model.proofs.Leading.{MayAdd, with_book}
-use Rattle.ring_model.proofs.Paths.{Adds, Ends, Goes_on, Path, done_join, path_join, path_keeps, quiet_join}
+use Rattle.ring_model.proofs.Moves.{Adds}
+use Rattle.ring_model.proofs.Paths.{Ends, Goes_on, Path, path_keeps}
+use Rattle.ring_model.proofs.HeldElections.{done_join, path_join, quiet_join}
 use Rattle.ring_model.proofs.Turns.{IsRow, Sent_all}
 use Rattle.ring_model.proofs.Advance.{Led_on, QuietPath, advance_row, engine_action, leader_at, no_actions}
 use Rattle.ring_model.proofs.Plain.{same_role, stays_holding}

@@ -106,7 +106,7 @@ pub struct Conflict {
 }
 
 /// How much of each write since the last sync a crash of a memory disk leaves.
-#[derive(Clone, Copy)]
+#[derive(Clone, Copy, PartialEq)]
 pub enum Keep {
     Nothing,
     Half,
