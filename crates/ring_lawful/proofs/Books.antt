@@ -45,14 +45,16 @@ pub record IsKept (ring : Layout) (P : List Entry → Type 0) : Type 0 where
   pub none : P []
   pub begins : (n : ℕ) (l : List Entry) → P l → P (take n l)
   pub plain : KeptByPlain P
-  pub writes : (id : ℕ) (d : Durable) (s : Soft) (changes : List Change) → write_refusal ring id d s changes ≡ None → (runs_engine ring id ≡ true → EngineRuns d s) → P d.log → P (d.log ++ write_entry ring id d changes ∷ [])
+  pub writes : (id : ℕ) (d : Durable) (s : Soft) (changes : List Change) → write_refusal ring id d s changes ≡ None
+      → (runs_engine ring id ≡ true → EngineRuns d s) → P d.log → P (d.log ++ write_entry ring id d changes ∷ [])
 
 take_all : (l : List Entry) → take (length l) l ≡ l
 take_all [] = refl
 take_all (e ∷ l) = ap (λ (r : List Entry). e ∷ r) (take_all l)
 
 -- more elections allow no less
-one_more : (h g : History) (id : ℕ) (P : List Entry → Type 0) (d : Durable) (a : Action) → ((e : Election) → Contains h.elections e → Contains g.elections e) → MayGrow h id P d a → MayGrow g id P d a
+one_more : (h g : History) (id : ℕ) (P : List Entry → Type 0) (d : Durable) (a : Action) → ((e : Election) → Contains h.elections e → Contains g.elections e)
+    → MayGrow h id P d a → MayGrow g id P d a
 one_more h g id P d (action.Append es) more (inl f) = inl (f.0, more f.0 f.1, f.2, f.3)
 one_more h g id P d (action.Append es) more (inr keeps) = inr keeps
 one_more h g id P d (action.SetTerm t) more x = tt
@@ -63,7 +65,8 @@ one_more h g id P d (action.Commit p) more x = tt
 one_more h g id P d (action.RollBackAfter p) more x = tt
 one_more h g id P d (action.DropPairs opids) more x = tt
 
-all_more : (h g : History) (id : ℕ) (P : List Entry → Type 0) (d : Durable) (steps : List Action) → ((e : Election) → Contains h.elections e → Contains g.elections e) → Allowed (MayGrow h id P) d steps → Allowed (MayGrow g id P) d steps
+all_more : (h g : History) (id : ℕ) (P : List Entry → Type 0) (d : Durable) (steps : List Action)
+    → ((e : Election) → Contains h.elections e → Contains g.elections e) → Allowed (MayGrow h id P) d steps → Allowed (MayGrow g id P) d steps
 all_more h g id P d [] more x = tt
 all_more h g id P d (a ∷ steps) more x = (one_more h g id P d a more x.0, all_more h g id P (done d a) steps more x.1)
 
@@ -82,7 +85,8 @@ module _ (ring : Layout) (P : List Entry → Type 0) (kept : IsKept ring P) wher
       subst P (sym y.in_book.same ∙ take_all (e ∷ l)) (kept.begins (length (e ∷ l)) (h.book (term_at (e ∷ l) (length (e ∷ l)))) p)
 
   -- ---- one action
-  own_holds : (h g : History) (id : ℕ) (d : Durable) (a : Action) (e : Election) (x : Entry) → a ≡ action.Append (x ∷ []) → IsHistory ring g → (f : (e : Election) → Contains h.elections e → Contains g.elections e)
+  own_holds : (h g : History) (id : ℕ) (d : Durable) (a : Action) (e : Election) (x : Entry) → a ≡ action.Append (x ∷ []) → IsHistory ring g
+      → (f : (e : Election) → Contains h.elections e → Contains g.elections e)
       → Contains g.elections e → e.node ≡ id → e.term ≡ d.term → MayGrow h id P d a → P d.log → P (done d a).log
   own_holds h g id d a e x is k more in_e by of_term may p = subst (λ (b : Action). P (done d b).log) (sym is) (go (subst (MayGrow h id P d) is may))
     where
@@ -93,7 +97,8 @@ module _ (ring : Layout) (P : List Entry → Type 0) (kept : IsKept ring P) wher
   new_books : (h g : History) (id : ℕ) (d : Durable) (a : Action) → Guarded ring id h d a g → BooksHold P h → P (done d a).log → BooksHold P g
   new_books h g id d a move b p e in_e = elim (guarded_books ring id h g d a move e in_e) [ inl old ↦ subst P (sym old.1) (b e old.0) | inr new ↦ subst P (sym new) p ]
 
-  guarded_holds : (h g : History) (id : ℕ) (d : Durable) (a : Action) → IsHistory ring h → IsNode ring h id d → Guarded ring id h d a g → MayGrow h id P d a → BooksHold P h → BooksHold P g
+  guarded_holds : (h g : History) (id : ℕ) (d : Durable) (a : Action) → IsHistory ring h → IsNode ring h id d → Guarded ring id h d a g → MayGrow h id P d a
+      → BooksHold P h → BooksHold P g
   guarded_holds h g id d a k n (Leads e x is may same) m b =
       let y = guarded_keeps ring id h g d a k n (Leads e x is may same) in
       let here : Contains g.elections e = subst (λ (w : History). Contains w.elections e) (sym same) (Contains-append_right h.elections (e ∷ []) e (zero, omega arith, refl)) in
@@ -108,7 +113,8 @@ module _ (ring : Layout) (P : List Entry → Type 0) (kept : IsKept ring P) wher
   guarded_holds h g id d a k n (Applies p is s may same) m b = subst (BooksHold P) (sym same) b
   guarded_holds h g id d a k n (Engine s same) m b = subst (BooksHold P) (sym same) b
 
-  path_holds : (h g : History) (id : ℕ) (d : Durable) (steps : List Action) → IsHistory ring h → IsNode ring h id d → Path ring id h d steps g → Allowed (MayGrow h id P) d steps → BooksHold P h → BooksHold P g
+  path_holds : (h g : History) (id : ℕ) (d : Durable) (steps : List Action) → IsHistory ring h → IsNode ring h id d → Path ring id h d steps g
+      → Allowed (MayGrow h id P) d steps → BooksHold P h → BooksHold P g
   path_holds h g id d [] k n Ends a b = b
   path_holds h g id d (s ∷ rest) k n (Goes_on {g = m} move path) a b =
       let y = guarded_keeps ring id h m d s k n move in
@@ -144,7 +150,8 @@ module _ (ring : Layout) (P : List Entry → Type 0) (kept : IsKept ring P) wher
   input_led h id (input.Transfer client target) k given = tt
   input_led h id (input.Cancel client) k given = tt
 
-  way_holds : (h : History) (id : ℕ) (d : Durable) (s : Soft) (i : Input) (n : ℕ) → IsHistory ring h → IsNode ring h id d → IsRunning ring h id d s → IsGiven h.messages id i → (runs_engine ring id ≡ true → EngineRuns d s)
+  way_holds : (h : History) (id : ℕ) (d : Durable) (s : Soft) (i : Input) (n : ℕ) → IsHistory ring h → IsNode ring h id d → IsRunning ring h id d s
+      → IsGiven h.messages id i → (runs_engine ring id ≡ true → EngineRuns d s)
       → BooksHold P h → P (all_done d (take n (step ring id d s i).plan.actions)).log
   way_holds h id d s i n k node r given runs b =
       let st = step ring id d s i in
@@ -156,7 +163,8 @@ module _ (ring : Layout) (P : List Entry → Type 0) (kept : IsKept ring P) wher
       log_holds c.0 (all_done d (take n st.plan.actions)).term (all_done d (take n st.plan.actions)).log z y.node.log
 
   -- ---- events and runs
-  on_way_holds : (w : WorldState) (h : History) (acted : Option (ℕ × Task)) (l : List Entry) → IsWorld ring w h → IsFit ring w → BooksHold P h → OnWay ring w acted l → P l
+  on_way_holds : (w : WorldState) (h : History) (acted : Option (ℕ × Task)) (l : List Entry) → IsWorld ring w h → IsFit ring w → BooksHold P h
+      → OnWay ring w acted l → P l
   on_way_holds w h None l k x b y = absurd y
   on_way_holds w h (Some (id, Handle i)) l k x b y =
       subst P (sym y.3.1)
@@ -171,11 +179,15 @@ module _ (ring : Layout) (P : List Entry → Type 0) (kept : IsKept ring P) wher
     pub world : IsWorld ring w history
     pub books : BooksHold P history
 
-  run_books : (w : WorldState) (h : History) (run : List Move) → IsRunFrom ring w run → IsWorld ring w h → IsFit ring w → BooksHold P h → Booked (world_from ring w run)
+  run_books : (w : WorldState) (h : History) (run : List Move) → IsRunFrom ring w run → IsWorld ring w h → IsFit ring w → BooksHold P h
+      → Booked (world_from ring w run)
   run_books w h [] is k x b = record { history = h; world = k; books = b }
   run_books w h (m ∷ run) is k x b =
       let c = event_over ring w h m k in
-      let books : BooksHold P c.joined.after = λ e in_e. elim (c.books e in_e) [ inl old ↦ subst P (sym old.1) (b e old.0) | inr new ↦ on_way_holds w h (acting w m.event.what) (c.joined.after.book e.term) k x b new ] in
+      let books : BooksHold P c.joined.after = λ e in_e. elim (c.books e in_e) [
+        | inl old ↦ subst P (sym old.1) (b e old.0)
+        | inr new ↦ on_way_holds w h (acting w m.event.what) (c.joined.after.book e.term) k x b new
+      ] in
       run_books (world_step ring w m.event m.completion) c.joined.after run is.2 c.joined.world (event_fits ring w m is.0 x) books
 
   pub booked : (run : List Move) → IsRing ring → IsRun ring run → Booked (world ring run)

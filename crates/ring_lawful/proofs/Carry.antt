@@ -45,7 +45,8 @@ IsGoodTask ring Rest = Unit {0}
 
 -- ---- events
 module _ (ring : Layout) where
-  turned_fits : (w : WorldState) (id : ℕ) (n : Node) (ms : List Message) (says : List Say) (cuts : List ℕ) → IsFit ring w → IsFitPart ring id n.durable → ((s : Soft) → n.soft ≡ Some s → IsFitNode ring id n.durable s)
+  turned_fits : (w : WorldState) (id : ℕ) (n : Node) (ms : List Message) (says : List Say) (cuts : List ℕ) → IsFit ring w → IsFitPart ring id n.durable
+      → ((s : Soft) → n.soft ≡ Some s → IsFitNode ring id n.durable s)
       → ((m : Message) → Contains ms m → IsNearlyWellFormed ring.schema m) → IsFit ring (turned w id n ms says cuts)
   turned_fits w id n ms says cuts x node running sent = record {
     nodes = λ j. elim (cases_eq j id) [
@@ -65,7 +66,8 @@ module _ (ring : Layout) where
   }
 
   -- a node that is down after its turn
-  downed_fits : (w : WorldState) (id : ℕ) (d : Durable) (cuts : List ℕ) → IsFit ring w → IsFitPart ring id d → IsFit ring (turned w id (record { durable = d; soft = None }) [] [] cuts)
+  downed_fits : (w : WorldState) (id : ℕ) (d : Durable) (cuts : List ℕ) → IsFit ring w → IsFitPart ring id d
+      → IsFit ring (turned w id (record { durable = d; soft = None }) [] [] cuts)
   downed_fits w id d cuts x node = turned_fits w id (record { durable = d; soft = None }) [] [] cuts x node (λ o so. absurd cc) (λ m in_m. absurd (none_contained m in_m))
 
   same_fits : (w v : WorldState) → v.nodes ≡ w.nodes → v.messages ≡ w.messages → IsFit ring w → IsFit ring v
@@ -75,7 +77,8 @@ module _ (ring : Layout) where
     messages = subst (λ (ms : List Message). (m : Message) → Contains ms m → IsNearlyWellFormed ring.schema m) (sym messages) x.messages;
   }
 
-  handled_fits : (w : WorldState) (id : ℕ) (i : Input) (completion : Completion) (o : Option Soft) → (w.nodes id).soft ≡ o → IsGood ring i → IsFit ring w → IsFit ring (handled ring w id i completion (w.nodes id).durable o)
+  handled_fits : (w : WorldState) (id : ℕ) (i : Input) (completion : Completion) (o : Option Soft) → (w.nodes id).soft ≡ o → IsGood ring i → IsFit ring w
+      → IsFit ring (handled ring w id i completion (w.nodes id).durable o)
   handled_fits w id i completion None up g x = same_fits w (passed w) refl refl x
   handled_fits w id i Whole (Some s) up g x =
       let d = (w.nodes id).durable in
@@ -88,7 +91,8 @@ module _ (ring : Layout) where
       let d = (w.nodes id).durable in
       downed_fits w id (all_done d (take count (step ring id d s i).plan.actions)) (count ∷ []) x ((every_step_is_possible ring id d s i (x.running id s up) g).1 count)
 
-  turn_fits : (w : WorldState) (id : ℕ) (task : Task) (completion : Completion) → IsGoodTask ring task → IsFit ring w → IsFit ring (turn ring w id task completion)
+  turn_fits : (w : WorldState) (id : ℕ) (task : Task) (completion : Completion) → IsGoodTask ring task → IsFit ring w
+      → IsFit ring (turn ring w id task completion)
   turn_fits w id (Handle i) completion g x = handled_fits w id i completion (w.nodes id).soft refl g x
   turn_fits w id GoDown completion g x = downed_fits w id (w.nodes id).durable [] x (x.nodes id)
   turn_fits w id ComeUp Whole g x =
@@ -98,22 +102,27 @@ module _ (ring : Layout) where
       (λ o so. let is : fresh_soft d ≡ o = cc in subst (λ (z : Soft). IsFitNode ring id (recover d) z) is y) (λ m in_m. absurd (none_contained m in_m))
   turn_fits w id ComeUp (Cut count) g x =
       let d = (w.nodes id).durable in
-      downed_fits w id (all_done d (take count (restart_actions d))) (count ∷ []) x (partly_sound ring id d count (x.nodes id).0, partly (λ (e : Durable). payloads_fit ring.schema e.log ≡ true) d (x.nodes id).1 (λ opids is. (x.nodes id).1) count)
+      let sound = partly_sound ring id d count (x.nodes id).0 in
+      let fit = partly (λ (e : Durable). payloads_fit ring.schema e.log ≡ true) d (x.nodes id).1 (λ opids is. (x.nodes id).1) count in
+      downed_fits w id (all_done d (take count (restart_actions d))) (count ∷ []) x (sound, fit)
   turn_fits w id Rest Whole g x = same_fits w (passed w) refl refl x
   turn_fits w id Rest (Cut count) g x = downed_fits w id (w.nodes id).durable (count ∷ []) x (x.nodes id)
 
-  member_fits : (w : WorldState) (id : ℕ) (task : Task) (completion : Completion) → IsGoodTask ring task → IsFit ring w → IsFit ring (member_turn ring w id task completion)
+  member_fits : (w : WorldState) (id : ℕ) (task : Task) (completion : Completion) → IsGoodTask ring task → IsFit ring w
+      → IsFit ring (member_turn ring w id task completion)
   member_fits w id task completion g x = go (is_member ring id)
     where
       go : (b : Bool) → IsFit ring (if b then turn ring w id task completion else passed w)
       go true = turn_fits w id task completion g x
       go false = same_fits w (passed w) refl refl x
 
-  given_fits : (w : WorldState) (completion : Completion) (number : ℕ) (o : Option Message) → message_at w.messages number ≡ o → IsFit ring w → IsFit ring (given ring w completion o)
+  given_fits : (w : WorldState) (completion : Completion) (number : ℕ) (o : Option Message) → message_at w.messages number ≡ o → IsFit ring w
+      → IsFit ring (given ring w completion o)
   given_fits w completion number None is x = same_fits w (passed w) refl refl x
   given_fits w completion number (Some m) is x = member_fits w m.to (Handle (input.Deliver m)) completion (x.messages m (in_number w.messages number m is)) x
 
-  given_to_fits : (w : WorldState) (id : ℕ) (completion : Completion) (number : ℕ) (o : Option Message) → message_at w.messages number ≡ o → IsFit ring w → IsFit ring (given_to ring w id completion o)
+  given_to_fits : (w : WorldState) (id : ℕ) (completion : Completion) (number : ℕ) (o : Option Message) → message_at w.messages number ≡ o → IsFit ring w
+      → IsFit ring (given_to ring w id completion o)
   given_to_fits w id completion number None is x = member_fits w id Rest completion tt x
   given_to_fits w id completion number (Some m) is x = member_fits w m.to (Handle (input.Deliver m)) completion (x.messages m (in_number w.messages number m is)) x
 
@@ -128,7 +137,8 @@ module _ (ring : Layout) where
   skipped_fits w id completion None x = member_fits w id Rest completion tt x
   skipped_fits w id completion (Some number) x = member_fits (moved w id number) id Rest completion tt (moved_fits w id number x)
 
-  at_fits : (w : WorldState) (id : ℕ) (i : Input) (completion : Completion) → is_whole_input i ≡ true → IsFit ring w → IsFit ring (at_node ring w id i completion)
+  at_fits : (w : WorldState) (id : ℕ) (i : Input) (completion : Completion) → is_whole_input i ≡ true → IsFit ring w
+      → IsFit ring (at_node ring w id i completion)
   at_fits w id (input.Deliver m) completion whole x = member_fits w id Rest completion tt x
   at_fits w id input.Elect completion whole x = member_fits w id (Handle input.Elect) completion tt x
   at_fits w id input.Beat completion whole x = member_fits w id (Handle input.Beat) completion tt x

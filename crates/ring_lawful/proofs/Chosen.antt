@@ -40,26 +40,31 @@ record Passed (ring : Layout) (me : ℕ) (d : Durable) (changes : List Change) :
   accepted : check ring.schema (committed_rows ring d) changes ≡ None
   number : is_none (next_number (server_of ring me) d.log) ≡ false
 
-sizes_passed : (ring : Layout) (me : ℕ) (d : Durable) (changes : List Change) → size_refusal ring me d changes ≡ None → is_none (next_number (server_of ring me) d.log) ≡ false
+sizes_passed : (ring : Layout) (me : ℕ) (d : Durable) (changes : List Change) → size_refusal ring me d changes ≡ None
+    → is_none (next_number (server_of ring me) d.log) ≡ false
 sizes_passed ring me d changes is = go (nat_lt group_limit (group_size ring.schema (payload.Txn (write_txn ring me d changes)))) (is_exhausted ring me d) refl is
   where
-    go : (a b : Bool) → is_exhausted ring me d ≡ b → (if a then Some (cause.TooLarge (group_size ring.schema (payload.Txn (write_txn ring me d changes)))) else (if b then Some cause.Exhausted else None)) ≡ None
+    go : (a b : Bool) → is_exhausted ring me d ≡ b
+        → (if a then Some (cause.TooLarge (group_size ring.schema (payload.Txn (write_txn ring me d changes)))) else (if b then Some cause.Exhausted else None)) ≡ None
         → is_none (next_number (server_of ring me) d.log) ≡ false
     go true b y is = absurd cc
     go false true y is = absurd cc
     go false false y is = first_false (is_none (next_number (server_of ring me) d.log)) (nat_le length_limit (length d.log)) y
 
-locks_passed : (ring : Layout) (me : ℕ) (d : Durable) (changes : List Change) → lock_refusal ring me d changes ≡ None → is_none (next_number (server_of ring me) d.log) ≡ false
+locks_passed : (ring : Layout) (me : ℕ) (d : Durable) (changes : List Change) → lock_refusal ring me d changes ≡ None
+    → is_none (next_number (server_of ring me) d.log) ≡ false
 locks_passed ring me d changes is = go (lock_of d.prepared changes) is
   where
-    go : (o : Option Cause) → ◌≡◌ {A = Option Cause} (elim o [ Some c ↦ Some c | None ↦ size_refusal ring me d changes ]) None → is_none (next_number (server_of ring me) d.log) ≡ false
+    go : (o : Option Cause) → ◌≡◌ {A = Option Cause} (elim o [ Some c ↦ Some c | None ↦ size_refusal ring me d changes ]) None
+        → is_none (next_number (server_of ring me) d.log) ≡ false
     go (Some c) is = absurd cc
     go None is = sizes_passed ring me d changes is
 
 changes_passed : (ring : Layout) (me : ℕ) (d : Durable) (changes : List Change) → change_refusal ring me d changes ≡ None → Passed ring me d changes
 changes_passed ring me d changes is = go (check ring.schema (committed_rows ring d) changes) refl is
   where
-    go : (o : Option RowRefusal) → check ring.schema (committed_rows ring d) changes ≡ o → ◌≡◌ {A = Option Cause} (elim o [ Some r ↦ Some (cause.Invalid r) | None ↦ lock_refusal ring me d changes ]) None → Passed ring me d changes
+    go : (o : Option RowRefusal) → check ring.schema (committed_rows ring d) changes ≡ o
+        → ◌≡◌ {A = Option Cause} (elim o [ Some r ↦ Some (cause.Invalid r) | None ↦ lock_refusal ring me d changes ]) None → Passed ring me d changes
     go (Some r) x is = absurd cc
     go None x is = record { accepted = x; number = locks_passed ring me d changes is }
 
@@ -80,7 +85,8 @@ write_passed ring me d s changes is = go (is_leader s.role) (is_ready s) (runs_e
 abbrev pub IsGood : Layout → List Entry → Type 0
 IsGood ring l = (is_valid ring.schema l ≡ true) × Once l
 
-write_good : (ring : Layout) (id : ℕ) (d : Durable) (s : Soft) (changes : List Change) → write_refusal ring id d s changes ≡ None → (runs_engine ring id ≡ true → EngineRuns d s) → IsGood ring d.log → IsGood ring (d.log ++ write_entry ring id d changes ∷ [])
+write_good : (ring : Layout) (id : ℕ) (d : Durable) (s : Soft) (changes : List Change) → write_refusal ring id d s changes ≡ None
+    → (runs_engine ring id ≡ true → EngineRuns d s) → IsGood ring d.log → IsGood ring (d.log ++ write_entry ring id d changes ∷ [])
 write_good ring id d s changes is runs x =
     let ready = write_is_ready ring id d s changes is in
     let p = write_passed ring id d s changes is in

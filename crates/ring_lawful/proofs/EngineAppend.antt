@@ -99,7 +99,8 @@ cut_then e k kept more x low high placed =
     let clean_f = append_clean b r.0 more clean_b placed in
     record { along = (clean_has e k x, (has_a, (clean_has b r.0 clean_b, clean_has (done b (action.Append more)) r.0 clean_f))); can = (tt, (tt, (tt, tt))); k = r.0; clean = clean_f; applied = refl }
 
-taken_clean : (ring : Layout) (me : ℕ) (e : Durable) (kept k : ℕ) (rest : List Entry) (more : List Action) → runs_engine ring me ≡ true → Clean e k → Placed (all_done e (take_in ring me e kept rest)).log
+taken_clean : (ring : Layout) (me : ℕ) (e : Durable) (kept k : ℕ) (rest : List Entry) (more : List Action) → runs_engine ring me ≡ true → Clean e k
+    → Placed (all_done e (take_in ring me e kept rest)).log
     → ((n : ℕ) → (all_done e (take n (take_in ring me e kept rest ++ more))).applied ≤ length (all_done e (take n (take_in ring me e kept rest ++ more))).log) → Taken e (take_in ring me e kept rest)
 taken_clean ring me e kept k [] more runs x placed cuts = record { along = clean_has e k x; can = tt; k = k; clean = x; applied = refl }
 taken_clean ring me e kept k (y ∷ rest) more runs x placed cuts = go (nat_lt kept (length e.log)) refl placed cuts
@@ -133,8 +134,10 @@ record Ready (ring : Layout) (me : ℕ) (d : Durable) (s : Soft) (first : List A
   same : (all_done d first).log ≡ d.log
   stands : is_leader s.role ≡ false
 
-accept_engine : (ring : Layout) (me : ℕ) (d : Durable) (s : Soft) (first : List Action) (says : List Say) (sent : Append) → runs_engine ring me ≡ true → Ready ring me d s first
-    → Fits d (accept ring me d s first says sent).plan.actions (accept ring me d s first says sent).soft.commit → EngineStep d (accept ring me d s first says sent)
+accept_engine : (ring : Layout) (me : ℕ) (d : Durable) (s : Soft) (first : List Action) (says : List Say) (sent : Append) → runs_engine ring me ≡ true
+    → Ready ring me d s first
+    → Fits d (accept ring me d s first says sent).plan.actions (accept ring me d s first says sent).soft.commit
+    → EngineStep d (accept ring me d s first says sent)
 accept_engine ring me d s first says sent runs r fits =
     let e : Durable = all_done d first in
     let rest = unmatched d.log sent.prev.position sent.entries in
@@ -152,7 +155,8 @@ accept_engine ring me d s first says sent runs r fits =
     (subst (λ (w : List Action). Placed (all_done e w).log) (sym is) (subst Placed l own.placed))
     (subst (λ (w : List Action). (n : ℕ) → (all_done e (take n (w ++ more))).applied ≤ length (all_done e (take n (w ++ more))).log) (sym is) own.cuts)) in
     let high : c ≤ length f.log = subst (λ (w : List Entry). c ≤ length w) l own.inside in
-    let low : f.applied ≤ c = (let a = t.applied in let b = r.follows in let z = (greater_both s.commit (smaller_of sent.commit m)).0 in omega (arith, a, b, z)) in
+    let least = (greater_both s.commit (smaller_of sent.commit m)).0 in
+    let low : f.applied ≤ c = (let a = t.applied in let b = r.follows in omega (arith, a, b, least)) in
     let y = follow_clean ring me f c t.k runs t.clean low high in
     let j : all_done d (first ++ (acts ++ more)) ≡ g = done_join d first (acts ++ more) ∙ done_join e acts more in
     record {
@@ -169,8 +173,10 @@ taken_tail ring me d kept (x ∷ rest) runs = go (nat_lt kept (length d.log))
     go true = rw runs (tt, (tt, tt))
     go false = (tt, tt)
 
-match_both : (ring : Layout) (me : ℕ) (d : Durable) (o s : Soft) (first : List Action) (says : List Say) (sent : Append) → (runs_engine ring me ≡ true → EngineRuns d o → Ready ring me d s first) → AllTail first
-    → Fits d (match_append ring me d s first says sent).plan.actions (match_append ring me d s first says sent).soft.commit → Both ring me d o (match_append ring me d s first says sent)
+match_both : (ring : Layout) (me : ℕ) (d : Durable) (o s : Soft) (first : List Action) (says : List Say) (sent : Append)
+    → (runs_engine ring me ≡ true → EngineRuns d o → Ready ring me d s first) → AllTail first
+    → Fits d (match_append ring me d s first says sent).plan.actions (match_append ring me d s first says sent).soft.commit
+    → Both ring me d o (match_append ring me d s first says sent)
 match_both ring me d o s first says sent ready quiet fits = go (nat_lt (length d.log) sent.prev.position) (term_at d.log sent.prev.position == sent.prev.term) fits
   where
     refusing : (p : ℕ) → Both ring me d o (stepped first (reply me sent.leader sent.term false p ∷ []) says s)
@@ -190,7 +196,8 @@ match_both ring me d o s first says sent ready quiet fits = go (nat_lt (length d
           tail_join first _ quiet (tail_join (take_in ring me d kept rest) _ (taken_tail ring me d kept rest runs) (follow_tail ring me (all_done (all_done d first) (take_in ring me d kept rest)) _ runs));
     }
 
-follow_both : (ring : Layout) (me : ℕ) (d : Durable) (s : Soft) (sent : Append) → Fits d (follow_append ring me d s sent).plan.actions (follow_append ring me d s sent).soft.commit → Both ring me d s (follow_append ring me d s sent)
+follow_both : (ring : Layout) (me : ℕ) (d : Durable) (s : Soft) (sent : Append)
+    → Fits d (follow_append ring me d s sent).plan.actions (follow_append ring me d s sent).soft.commit → Both ring me d s (follow_append ring me d s sent)
 follow_both ring me d s sent fits = go (nat_lt d.term sent.term) s.role refl fits
   where
     go : (b : Bool) (o : Role) → s.role ≡ o
@@ -207,7 +214,8 @@ follow_both ring me d s sent fits = go (nat_lt d.term sent.term) s.role refl fit
     go false Candidate z fits = match_both ring me d s (demoted s) [] (unknowns s) sent (λ runs r. record { along = clean_has d r.k r.clean; can = tt; k = r.k; clean = r.clean; follows = r.follows; same = refl; stands = refl }) tt fits
     go false Leader z fits = idle_both ring me d s
 
-pub append_both : (ring : Layout) (me : ℕ) (sent : Append) (d : Durable) (s : Soft) → Fits d (on_append ring me d s sent).plan.actions (on_append ring me d s sent).soft.commit → Both ring me d s (on_append ring me d s sent)
+pub append_both : (ring : Layout) (me : ℕ) (sent : Append) (d : Durable) (s : Soft)
+    → Fits d (on_append ring me d s sent).plan.actions (on_append ring me d s sent).soft.commit → Both ring me d s (on_append ring me d s sent)
 unfolding on_append
 append_both ring me sent d s fits = go (outgrows d sent) (nat_lt sent.term d.term) (leads_it d s sent) (tear_in d s sent) fits
   where

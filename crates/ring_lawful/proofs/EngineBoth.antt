@@ -34,7 +34,8 @@ tail_join (s ∷ a) b x y = (x.0, tail_join a b x.1 y)
 pub follow_tail : (ring : Layout) (me : ℕ) (d : Durable) (c : ℕ) → runs_engine ring me ≡ false → AllTail (follow_actions ring me d c)
 follow_tail ring me d c runs = rw runs tt
 
-pub advance_tail : (ring : Layout) (me : ℕ) (d : Durable) (s : Soft) (first : List Action) (says : List Say) → runs_engine ring me ≡ false → AllTail first → AllTail (advance ring me d s first says).plan.actions
+pub advance_tail : (ring : Layout) (me : ℕ) (d : Durable) (s : Soft) (first : List Action) (says : List Say) → runs_engine ring me ≡ false → AllTail first
+    → AllTail (advance ring me d s first says).plan.actions
 unfolding advance
 advance_tail ring me d s first says runs x = tail_join first (follow_actions ring me (all_done d first) (commit_count ring me (all_done d first).term (all_done d first).log s)) x (follow_tail ring me (all_done d first) (commit_count ring me (all_done d first).term (all_done d first).log s) runs)
 
@@ -44,7 +45,8 @@ pub record Both (ring : Layout) (me : ℕ) (d : Durable) (s : Soft) (st : Step) 
   pub tail : runs_engine ring me ≡ false → AllTail st.plan.actions
 
 -- ---- steps without a change of the log
-pub quiet_both : (ring : Layout) (me : ℕ) (d : Durable) (s o : Soft) (ms : List Message) (says : List Say) → o.role ≡ s.role → o.commit ≡ s.commit → o.ready_at ≡ s.ready_at → Both ring me d s (stepped [] ms says o)
+pub quiet_both : (ring : Layout) (me : ℕ) (d : Durable) (s o : Soft) (ms : List Message) (says : List Say) → o.role ≡ s.role → o.commit ≡ s.commit
+    → o.ready_at ≡ s.ready_at → Both ring me d s (stepped [] ms says o)
 quiet_both ring me d s o ms says a b c = record { engine = λ runs r. quiet_step d o ms says (same_runs d s o a b c r); tail = λ runs. tt }
 
 pub idle_both : (ring : Layout) (me : ℕ) (d : Durable) (s : Soft) → Both ring me d s (idle s)
@@ -67,7 +69,8 @@ runs_at d e s l a p r = record {
   all = λ ready. subst (Clean e) (ap length (sym l)) (clean_at d e (length d.log) l a p (r.all ready));
 }
 
-pub raise_both : (ring : Layout) (me t : ℕ) (d : Durable) (s : Soft) (ms : List Message) (says : List Say) → Both ring me d s (stepped (action.SetTerm t ∷ []) ms says (demoted s))
+pub raise_both : (ring : Layout) (me t : ℕ) (d : Durable) (s : Soft) (ms : List Message) (says : List Say)
+    → Both ring me d s (stepped (action.SetTerm t ∷ []) ms says (demoted s))
 raise_both ring me t d s ms says = record {
   engine = λ runs r. (let x = clean_at d (done d (action.SetTerm t)) r.k refl refl refl r.clean in record { along = (clean_has d r.k r.clean, clean_has (done d (action.SetTerm t)) r.k x); can = (tt, tt); after = stands_down (done d (action.SetTerm t)) (demoted s) r.k x r.follows refl });
   tail = λ runs. (tt, tt);

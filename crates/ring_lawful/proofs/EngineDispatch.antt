@@ -78,7 +78,8 @@ asked_both ring me from sent d s = go (sent.term == d.term && votes ring me)
     go true = quiet_both ring me d s s _ [] refl refl refl
     go false = idle_both ring me d s
 
-count_both : (ring : Layout) (me from : ℕ) (answer : MockReply) (d : Durable) (s : Soft) (leader : ℕ) (asked : Opid) (passed failed : List ℕ) → Both ring me d s (count_answer ring me d s from answer leader asked passed failed)
+count_both : (ring : Layout) (me from : ℕ) (answer : MockReply) (d : Durable) (s : Soft) (leader : ℕ) (asked : Opid) (passed failed : List ℕ)
+    → Both ring me d s (count_answer ring me d s from answer leader asked passed failed)
 count_both ring me from answer d s leader asked passed failed = go (is_listed passed from || is_listed failed from) answer.ok
   where
     with_both : (more_passed more_failed : List ℕ) → Both ring me d s (with_answer ring me d s leader answer.round asked passed failed more_passed more_failed)
@@ -128,7 +129,8 @@ timeout_both ring me d s term = go (term == d.term && votes ring me && not (is_l
     go false = idle_both ring me d s
 
 -- ---- any input
-body_both : (ring : Layout) (me from : ℕ) (d : Durable) (s : Soft) (b : Body) → Fits d (body_step ring me d s from b).plan.actions (body_step ring me d s from b).soft.commit → Both ring me d s (body_step ring me d s from b)
+body_both : (ring : Layout) (me from : ℕ) (d : Durable) (s : Soft) (b : Body)
+    → Fits d (body_step ring me d s from b).plan.actions (body_step ring me d s from b).soft.commit → Both ring me d s (body_step ring me d s from b)
 body_both ring me from d s (body.RequestVote asked) f = request_both ring me from asked d s
 body_both ring me from d s (body.VoteReply reply) f = reply_both ring me from reply d s
 body_both ring me from d s (body.Append sent) f = append_both ring me sent d s f
@@ -145,14 +147,16 @@ body_both ring me from d s (body.ClientTransfer target) f = transfer_both ring m
 body_both ring me from d s body.ClientCancel f = cancel_both ring me from d s
 body_both ring me from d s (body.ClientReply what) f = idle_both ring me d s
 
-deliver_both : (ring : Layout) (me : ℕ) (d : Durable) (s : Soft) (m : Message) → Fits d (deliver ring me d s m).plan.actions (deliver ring me d s m).soft.commit → Both ring me d s (deliver ring me d s m)
+deliver_both : (ring : Layout) (me : ℕ) (d : Durable) (s : Soft) (m : Message)
+    → Fits d (deliver ring me d s m).plan.actions (deliver ring me d s m).soft.commit → Both ring me d s (deliver ring me d s m)
 deliver_both ring me d s m f = go (is_foreign ring me m) f
   where
     go : (b : Bool) → Fits d (if b then idle s else body_step ring me d s m.from m.body).plan.actions (if b then idle s else body_step ring me d s m.from m.body).soft.commit → Both ring me d s (if b then idle s else body_step ring me d s m.from m.body)
     go true f = idle_both ring me d s
     go false f = body_both ring me m.from d s m.body f
 
-pub step_both : (ring : Layout) (me : ℕ) (d : Durable) (s : Soft) (i : Input) → Fits d (step ring me d s i).plan.actions (step ring me d s i).soft.commit → Both ring me d s (step ring me d s i)
+pub step_both : (ring : Layout) (me : ℕ) (d : Durable) (s : Soft) (i : Input) → Fits d (step ring me d s i).plan.actions (step ring me d s i).soft.commit
+    → Both ring me d s (step ring me d s i)
 step_both ring me d s input.Elect f = elect_both ring me d s
 step_both ring me d s input.Beat f = beat_both ring me d s
 step_both ring me d s (input.Deliver m) f = deliver_both ring me d s m f

@@ -30,7 +30,8 @@ use Rattle.ring_lawful.proofs.EngineSteps.{EngineRuns, EngineStep, advance_step,
 use Rattle.ring_lawful.proofs.EngineBoth.{AllTail, Both, advance_tail, clean_at, idle_both, quiet_both, raise_both, runs_at, tail_join}
 
 -- ---- elections
-ask_engine : (ring : Layout) (me : ℕ) (d : Durable) (s : Soft) (first : List Action) (says : List Say) (grants : List Grant) (asks : List Message) (k : ℕ) → runs_engine ring me ≡ true → Along HasPairs d first → Allowed Can d first → Clean (all_done d first) k
+ask_engine : (ring : Layout) (me : ℕ) (d : Durable) (s : Soft) (first : List Action) (says : List Say) (grants : List Grant) (asks : List Message) (k : ℕ)
+    → runs_engine ring me ≡ true → Along HasPairs d first → Allowed Can d first → Clean (all_done d first) k
     → s.commit ≡ (all_done d first).applied → EngineStep d (lead_or_ask ring me d s first says grants asks)
 unfolding lead_or_ask
 ask_engine ring me d s first says grants asks k runs a can x is = go (has_won ring me (all_done d first) grants)
@@ -51,7 +52,8 @@ ask_engine ring me d s first says grants asks k runs a can x is = go (has_won ri
     go true = leads
     go false = record { along = a; can = can; after = stands_down (all_done d first) (record s { role = Candidate; grants = grants }) k x is refl }
 
-ask_tail : (ring : Layout) (me : ℕ) (d : Durable) (s : Soft) (first : List Action) (says : List Say) (grants : List Grant) (asks : List Message) → runs_engine ring me ≡ false → AllTail first → AllTail (lead_or_ask ring me d s first says grants asks).plan.actions
+ask_tail : (ring : Layout) (me : ℕ) (d : Durable) (s : Soft) (first : List Action) (says : List Say) (grants : List Grant) (asks : List Message)
+    → runs_engine ring me ≡ false → AllTail first → AllTail (lead_or_ask ring me d s first says grants asks).plan.actions
 unfolding lead_or_ask
 ask_tail ring me d s first says grants asks runs x = go (has_won ring me (all_done d first) grants)
   where
@@ -106,10 +108,12 @@ record Before (ring : Layout) (me : ℕ) (d : Durable) (s o : Soft) (first : Lis
   engine : runs_engine ring me ≡ true → EngineRuns d s → Along HasPairs d first × Allowed Can d first × EngineRuns (all_done d first) o
   tail : runs_engine ring me ≡ false → AllTail first
 
-before_both : (ring : Layout) (me : ℕ) (d : Durable) (s o : Soft) (first : List Action) (ms : List Message) (says : List Say) → Before ring me d s o first → Both ring me d s (stepped first ms says o)
+before_both : (ring : Layout) (me : ℕ) (d : Durable) (s o : Soft) (first : List Action) (ms : List Message) (says : List Say) → Before ring me d s o first
+    → Both ring me d s (stepped first ms says o)
 before_both ring me d s o first ms says b = record { engine = λ runs r. (let x = b.engine runs r in record { along = x.0; can = x.1; after = x.2 }); tail = b.tail }
 
-vote_both : (ring : Layout) (me : ℕ) (d : Durable) (s o : Soft) (first : List Action) (v : Vote) (floor : ℕ) (ms : List Message) (says : List Say) → Before ring me d s o first → Both ring me d s (stepped (first ++ (action.Vote v floor ∷ [])) ms says o)
+vote_both : (ring : Layout) (me : ℕ) (d : Durable) (s o : Soft) (first : List Action) (v : Vote) (floor : ℕ) (ms : List Message) (says : List Say)
+    → Before ring me d s o first → Both ring me d s (stepped (first ++ (action.Vote v floor ∷ [])) ms says o)
 vote_both ring me d s o first v floor ms says b = record {
   engine = λ runs r.
       let x = b.engine runs r in
@@ -125,7 +129,8 @@ vote_both ring me d s o first v floor ms says b = record {
   tail = λ runs. tail_join first (action.Vote v floor ∷ []) (b.tail runs) (tt, tt);
 }
 
-answer_both : (ring : Layout) (me : ℕ) (d : Durable) (s o : Soft) (first : List Action) (says : List Say) (from : ℕ) (asked : RequestVote) → Before ring me d s o first → Both ring me d s (answer_request ring me d o first says from asked)
+answer_both : (ring : Layout) (me : ℕ) (d : Durable) (s o : Soft) (first : List Action) (says : List Say) (from : ℕ) (asked : RequestVote)
+    → Before ring me d s o first → Both ring me d s (answer_request ring me d o first says from asked)
 answer_both ring me d s o first says from asked b = go (vote_in d.votes asked.term)
   where
     kept : (c : Bool) → Both ring me d s (if c then granted_now me d o first says from asked else refused_now me o first says from asked.term)

@@ -42,7 +42,8 @@ hears_both ring me from answer d s = record {
     ready_cases : (s : Soft) → (is_ready s ≡ true) ⊎ (is_leader s.role ≡ true → nat_le s.ready_at s.commit ≡ true → ⊥)
     ready_cases s = go (is_leader s.role) refl (nat_le s.ready_at s.commit) refl
       where
-        go : (a : Bool) → is_leader s.role ≡ a → (b : Bool) → nat_le s.ready_at s.commit ≡ b → (is_ready s ≡ true) ⊎ (is_leader s.role ≡ true → nat_le s.ready_at s.commit ≡ true → ⊥)
+        go : (a : Bool) → is_leader s.role ≡ a → (b : Bool) → nat_le s.ready_at s.commit ≡ b
+            → (is_ready s ≡ true) ⊎ (is_leader s.role ≡ true → nat_le s.ready_at s.commit ≡ true → ⊥)
         go true x true y = inl (rw (x, y) refl)
         go true x false y = inr (λ led low. absurd (let z : true ≡ false = sym low ∙ y in cc))
         go false x b y = inr (λ led low. absurd (let z : true ≡ false = sym led ∙ x in cc))
@@ -67,11 +68,13 @@ answered_both ring me from answer d s = go (counts d s answer && answer.ok)
     go true = record { engine = λ runs r. (let x = b.engine runs r in record { along = x.along; can = x.can; after = x.after }); tail = b.tail }
     go false = b
 
-pub write_is_ready : (ring : Layout) (me : ℕ) (d : Durable) (s : Soft) (changes : List Change) → write_refusal ring me d s changes ≡ None → (is_ready s ≡ true) × (runs_engine ring me ≡ true)
+pub write_is_ready : (ring : Layout) (me : ℕ) (d : Durable) (s : Soft) (changes : List Change) → write_refusal ring me d s changes ≡ None
+    → (is_ready s ≡ true) × (runs_engine ring me ≡ true)
 unfolding write_refusal
 write_is_ready ring me d s changes is = go (is_leader s.role) refl (nat_le s.ready_at s.commit) refl (runs_engine ring me) refl
   where
-    go : (a : Bool) → is_leader s.role ≡ a → (b : Bool) → nat_le s.ready_at s.commit ≡ b → (c : Bool) → runs_engine ring me ≡ c → (is_ready s ≡ true) × (runs_engine ring me ≡ true)
+    go : (a : Bool) → is_leader s.role ≡ a → (b : Bool) → nat_le s.ready_at s.commit ≡ b → (c : Bool) → runs_engine ring me ≡ c
+        → (is_ready s ≡ true) × (runs_engine ring me ≡ true)
     go false x b y c z = absurd (let u = rw x at is in cc)
     go true x false y c z = absurd (let u = rw (x, y) at is in cc)
     go true x true y false z = absurd (let u = rw (x, y, z) at is in cc)
@@ -85,11 +88,13 @@ unlocked pairs (c ∷ changes) is = go (holder_of pairs c) refl is (unlocked pai
     none_writes [] x = refl
     none_writes (p ∷ ps) x = pick (writes_key c p) refl x (none_writes ps)
       where
-        pick : (b : Bool) → writes_key c p ≡ b → find (writes_key c) (p ∷ ps) ≡ None → (find (writes_key c) ps ≡ None → list_any (writes_key c) ps ≡ false) → list_any (writes_key c) (p ∷ ps) ≡ false
+        pick : (b : Bool) → writes_key c p ≡ b → find (writes_key c) (p ∷ ps) ≡ None → (find (writes_key c) ps ≡ None → list_any (writes_key c) ps ≡ false)
+            → list_any (writes_key c) (p ∷ ps) ≡ false
         pick true y x rest = absurd (let u = rw y at x in cc)
         pick false y x rest = rw y (rest (let u = rw y at x in u))
 
-    go : (o : Option Pair) → holder_of pairs c ≡ o → ◌≡◌ {A = Option Cause} (elim o [ Some p ↦ Some (cause.Locked (table_name c) (change_key c) p.opid) | None ↦ lock_of pairs changes ]) None
+    go : (o : Option Pair) → holder_of pairs c ≡ o
+        → ◌≡◌ {A = Option Cause} (elim o [ Some p ↦ Some (cause.Locked (table_name c) (change_key c) p.opid) | None ↦ lock_of pairs changes ]) None
         → (lock_of pairs changes ≡ None → list_any (is_held pairs) changes ≡ false) → list_any (is_held pairs) (c ∷ changes) ≡ false
     go (Some p) x y rest = absurd cc
     go None x y rest = let here = none_writes pairs x in rw here (rest y)
@@ -97,18 +102,21 @@ unlocked pairs (c ∷ changes) is = go (holder_of pairs c) refl is (unlocked pai
 lock_passed : (ring : Layout) (me : ℕ) (d : Durable) (changes : List Change) → lock_refusal ring me d changes ≡ None → lock_of d.prepared changes ≡ None
 lock_passed ring me d changes is = go (lock_of d.prepared changes) refl is
   where
-    go : (o : Option Cause) → lock_of d.prepared changes ≡ o → ◌≡◌ {A = Option Cause} (elim o [ Some c ↦ Some c | None ↦ size_refusal ring me d changes ]) None → lock_of d.prepared changes ≡ None
+    go : (o : Option Cause) → lock_of d.prepared changes ≡ o
+        → ◌≡◌ {A = Option Cause} (elim o [ Some c ↦ Some c | None ↦ size_refusal ring me d changes ]) None → lock_of d.prepared changes ≡ None
     go (Some c) x y = absurd cc
     go None x y = x
 
 rows_passed : (ring : Layout) (me : ℕ) (d : Durable) (changes : List Change) → change_refusal ring me d changes ≡ None → lock_refusal ring me d changes ≡ None
 rows_passed ring me d changes is = go (check ring.schema (committed_rows ring d) changes) is
   where
-    go : (o : Option RowRefusal) → ◌≡◌ {A = Option Cause} (elim o [ Some r ↦ Some (cause.Invalid r) | None ↦ lock_refusal ring me d changes ]) None → lock_refusal ring me d changes ≡ None
+    go : (o : Option RowRefusal) → ◌≡◌ {A = Option Cause} (elim o [ Some r ↦ Some (cause.Invalid r) | None ↦ lock_refusal ring me d changes ]) None
+        → lock_refusal ring me d changes ≡ None
     go (Some r) y = absurd cc
     go None y = y
 
-pub write_holds : (ring : Layout) (me : ℕ) (d : Durable) (s : Soft) (changes : List Change) → write_refusal ring me d s changes ≡ None → list_any (is_held d.prepared) changes ≡ false
+pub write_holds : (ring : Layout) (me : ℕ) (d : Durable) (s : Soft) (changes : List Change) → write_refusal ring me d s changes ≡ None
+    → list_any (is_held d.prepared) changes ≡ false
 unfolding write_refusal
 write_holds ring me d s changes is = go (is_leader s.role) (is_ready s) (runs_engine ring me) (is_handing s.transfer) is
   where
@@ -153,7 +161,8 @@ pub rotate_both : (ring : Layout) (me client : ℕ) (d : Durable) (s : Soft) →
 unfolding rotate
 rotate_both ring me client d s = go (rotate_refusal ring me d s) refl
   where
-    go : (c : Option Cause) → rotate_refusal ring me d s ≡ c → Both ring me d s (elim c [ Some c ↦ refused s client c | None ↦ rotate_step ring me d s client (own_entry ring me d payload.Rotate) ])
+    go : (c : Option Cause) → rotate_refusal ring me d s ≡ c
+        → Both ring me d s (elim c [ Some c ↦ refused s client c | None ↦ rotate_step ring me d s client (own_entry ring me d payload.Rotate) ])
     go (Some c) is = quiet_both ring me d s s [] _ refl refl refl
     go None is =
         let x : Entry = own_entry ring me d payload.Rotate in

@@ -59,7 +59,8 @@ pub quiet_step : (d : Durable) (s : Soft) (ms : List Message) (says : List Say) 
 quiet_step d s ms says r = record { along = clean_has d r.k r.clean; can = tt; after = r }
 
 -- ---- the engine follows
-pub follow_clean : (ring : Layout) (me : ℕ) (d : Durable) (c k : ℕ) → runs_engine ring me ≡ true → Clean d k → d.applied ≤ c → c ≤ length d.log → Follows d.log k c d (follow_actions ring me d c)
+pub follow_clean : (ring : Layout) (me : ℕ) (d : Durable) (c k : ℕ) → runs_engine ring me ≡ true → Clean d k → d.applied ≤ c → c ≤ length d.log
+    → Follows d.log k c d (follow_actions ring me d c)
 follow_clean ring me d c k runs x low high =
     let z : d.applied + (c - d.applied) ≡ c = omega (arith, low) in
     let f = follows d.log x.placed d.applied k x.inside (c - d.applied) d.applied d (omega arith) (omega (arith, z, high)) refl refl x.prepared in
@@ -80,13 +81,15 @@ pub greatest_bounds : (test : ℕ → Bool) (floor n top : ℕ) → floor ≤ to
 greatest_bounds test floor zero top low high = (omega arith, low)
 greatest_bounds test floor (suc n) top low high = go (nat_le (suc n) floor) refl (test (suc n)) refl (greatest_bounds test floor n top low (omega arith))
   where
-    go : (a : Bool) → nat_le (suc n) floor ≡ a → (b : Bool) → test (suc n) ≡ b → (floor ≤ greatest test floor n) × (greatest test floor n ≤ top) → (floor ≤ greatest test floor (suc n)) × (greatest test floor (suc n) ≤ top)
+    go : (a : Bool) → nat_le (suc n) floor ≡ a → (b : Bool) → test (suc n) ≡ b → (floor ≤ greatest test floor n) × (greatest test floor n ≤ top)
+        → (floor ≤ greatest test floor (suc n)) × (greatest test floor (suc n) ≤ top)
     go true x b y ih = rw x (omega arith, low)
     go false x true y ih = rw (x, y) (grind (arith, nat_tests, x), high)
     go false x false y ih = rw (x, y) ih
 
 -- ---- a leader's commit count, and the engine after it
-advanced : (e g : Durable) (s t : Soft) (k c : ℕ) → Clean g k → g.log ≡ e.log → g.applied ≡ c → s.commit ≤ c → c ≤ length e.log → t.role ≡ s.role → t.ready_at ≡ s.ready_at → t.commit ≡ c
+advanced : (e g : Durable) (s t : Soft) (k c : ℕ) → Clean g k → g.log ≡ e.log → g.applied ≡ c → s.commit ≤ c → c ≤ length e.log → t.role ≡ s.role
+    → t.ready_at ≡ s.ready_at → t.commit ≡ c
     → (is_leader s.role ≡ true → ((nat_le s.ready_at s.commit ≡ true) × (k ≡ length e.log)) ⊎ (s.ready_at ≡ length e.log)) → EngineRuns g t
 advanced e g s t k c x l at low high role ready count cases = record {
   k = k;
@@ -110,8 +113,10 @@ advanced e g s t k c x l at low high role ready count cases = record {
   ]);
 }
 
-pub advance_step : (ring : Layout) (me : ℕ) (d : Durable) (s : Soft) (first : List Action) (says : List Say) (k : ℕ) → runs_engine ring me ≡ true → Along HasPairs d first → Allowed Can d first → Clean (all_done d first) k → s.commit ≡ (all_done d first).applied
-    → (is_leader s.role ≡ true → ((nat_le s.ready_at s.commit ≡ true) × (k ≡ length (all_done d first).log)) ⊎ (s.ready_at ≡ length (all_done d first).log)) → EngineStep d (advance ring me d s first says)
+pub advance_step : (ring : Layout) (me : ℕ) (d : Durable) (s : Soft) (first : List Action) (says : List Say) (k : ℕ) → runs_engine ring me ≡ true
+    → Along HasPairs d first → Allowed Can d first → Clean (all_done d first) k → s.commit ≡ (all_done d first).applied
+    → (is_leader s.role ≡ true → ((nat_le s.ready_at s.commit ≡ true) × (k ≡ length (all_done d first).log)) ⊎ (s.ready_at ≡ length (all_done d first).log))
+    → EngineStep d (advance ring me d s first says)
 unfolding advance
 advance_step ring me d s first says k runs a can x is cases =
     let e : Durable = all_done d first in
@@ -141,7 +146,8 @@ append_clean d k es x placed = record {
     length_more (z ∷ xs) ys = let y = length_more xs ys in omega (arith, y)
 
 -- an own entry with no transaction, where the log's every transaction is prepared
-pub push_clean : (d : Durable) (x : Entry) → Clean d (length d.log) → x.opid.position ≡ suc (length d.log) → pairs_in (x ∷ []) ≡ [] → Clean (done d (action.Append (x ∷ []))) (length (done d (action.Append (x ∷ []))).log)
+pub push_clean : (d : Durable) (x : Entry) → Clean d (length d.log) → x.opid.position ≡ suc (length d.log) → pairs_in (x ∷ []) ≡ []
+    → Clean (done d (action.Append (x ∷ []))) (length (done d (action.Append (x ∷ []))).log)
 push_clean d x c is none =
     let y = append_clean d (length d.log) (x ∷ []) c (placed_push d.log x c.placed is) in
     record {
@@ -157,7 +163,8 @@ pub record Written (d : Durable) (p : Pair) (x : Entry) : Type 0 where
   pub along : Along HasPairs d (action.Prepare p ∷ action.Append (x ∷ []) ∷ [])
   pub clean : Clean (all_done d (action.Prepare p ∷ action.Append (x ∷ []) ∷ [])) (length (d.log ++ x ∷ []))
 
-pub written : (d : Durable) (p : Pair) (x : Entry) → Clean d (length d.log) → x.opid.position ≡ suc (length d.log) → p.opid ≡ x.opid → pairs_in (x ∷ []) ≡ p ∷ [] → Written d p x
+pub written : (d : Durable) (p : Pair) (x : Entry) → Clean d (length d.log) → x.opid.position ≡ suc (length d.log) → p.opid ≡ x.opid
+    → pairs_in (x ∷ []) ≡ p ∷ [] → Written d p x
 written d p x c is same one =
     let m : Durable = done d (action.Prepare p) in
     let e : Durable = done m (action.Append (x ∷ [])) in

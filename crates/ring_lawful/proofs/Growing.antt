@@ -78,7 +78,8 @@ module _ (ring : Layout) (h : History) (me : ℕ) (P : List Entry → Type 0) wh
       go true = engine_logs (c - d.applied) d.applied d d.log d.prepared
       go false = tt
 
-  pub advance_logs : (d : Durable) (s : Soft) (first : List Action) (says : List Say) → Allowed (MayGrow h me P) d first → Adds h me P d (advance ring me d s first says)
+  pub advance_logs : (d : Durable) (s : Soft) (first : List Action) (says : List Say) → Allowed (MayGrow h me P) d first
+      → Adds h me P d (advance ring me d s first says)
   unfolding advance
   advance_logs d s first says a =
       allowed_join (MayGrow h me P) d first (follow_actions ring me (all_done d first) (commit_count ring me (all_done d first).term (all_done d first).log s)) a

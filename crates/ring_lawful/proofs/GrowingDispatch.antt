@@ -80,7 +80,8 @@ module _ (ring : Layout) (h : History) (me : ℕ) (P : List Entry → Type 0) (p
       go true = tt
       go false = tt
 
-  count_logs : (from : ℕ) (answer : MockReply) (d : Durable) (s : Soft) (leader : ℕ) (asked : Opid) (passed failed : List ℕ) → Adds h me P d (count_answer ring me d s from answer leader asked passed failed)
+  count_logs : (from : ℕ) (answer : MockReply) (d : Durable) (s : Soft) (leader : ℕ) (asked : Opid) (passed failed : List ℕ)
+      → Adds h me P d (count_answer ring me d s from answer leader asked passed failed)
   count_logs from answer d s leader asked passed failed = go (is_listed passed from || is_listed failed from) answer.ok
     where
       with_logs : (more_passed more_failed : List ℕ) → Adds h me P d (with_answer ring me d s leader answer.round asked passed failed more_passed more_failed)

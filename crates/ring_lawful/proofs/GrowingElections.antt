@@ -27,7 +27,8 @@ use Rattle.ring_lawful.proofs.Growing.{Adds, KeptByPlain, MayGrow, advance_logs}
 
 module _ (ring : Layout) (h : History) (me : ℕ) (P : List Entry → Type 0) (plain : KeptByPlain P) where
   -- ---- elections
-  ask_logs : (d : Durable) (s : Soft) (first : List Action) (says : List Say) (grants : List Grant) (asks : List Message) → Allowed (MayGrow h me P) d first → Adds h me P d (lead_or_ask ring me d s first says grants asks)
+  ask_logs : (d : Durable) (s : Soft) (first : List Action) (says : List Say) (grants : List Grant) (asks : List Message) → Allowed (MayGrow h me P) d first
+      → Adds h me P d (lead_or_ask ring me d s first says grants asks)
   unfolding lead_or_ask
   ask_logs d s first says grants asks a = go (has_won ring me (all_done d first) grants)
     where
@@ -64,7 +65,8 @@ module _ (ring : Layout) (h : History) (me : ℕ) (P : List Entry → Type 0) (p
       go Leader = tt
 
   -- ---- votes
-  answer_logs : (d : Durable) (o : Soft) (first : List Action) (says : List Say) (from : ℕ) (asked : RequestVote) → Allowed (MayGrow h me P) d first → Adds h me P d (answer_request ring me d o first says from asked)
+  answer_logs : (d : Durable) (o : Soft) (first : List Action) (says : List Say) (from : ℕ) (asked : RequestVote) → Allowed (MayGrow h me P) d first
+      → Adds h me P d (answer_request ring me d o first says from asked)
   answer_logs d o first says from asked a = go (vote_in d.votes asked.term)
     where
       kept : (c : Bool) → Adds h me P d (if c then granted_now me d o first says from asked else refused_now me o first says from asked.term)

@@ -5,6 +5,7 @@ use Rattle.std.specs.Prelude.{nat_lt}
 use Rattle.ring_types.specs.declared.entries.Entry.{Entry}
 use Rattle.ring_types.specs.declared.entries.Payload.TheVariants as payload
 use Rattle.ring_types.specs.declared.values.Change.{Change}
+use Rattle.ring_types.specs.declared.values.Txn.{Txn}
 use Rattle.ring_types.specs.Rings.{Layout, runs_engine}
 use Rattle.ring_types.specs.Logs.{term_at}
 use Rattle.ring_model.specs.declared.effects.Action.{Action}
@@ -56,7 +57,9 @@ module _ (ring : Layout) (h : History) (me : ℕ) (P : List Entry → Type 0) wh
       go (Some c) is = tt
       go None is =
           let x : Entry = write_entry ring me d changes in
-          advance_logs ring h me P d (awaits s client x (write_txn ring me d changes).gtid) (action.Prepare (record { opid = x.opid; txn = write_txn ring me d changes }) ∷ action.Append (x ∷ []) ∷ []) [] (tt, (inr (keeps changes is), tt))
+          let t : Txn = write_txn ring me d changes in
+          advance_logs ring h me P d (awaits s client x t.gtid) (action.Prepare (record { opid = x.opid; txn = t }) ∷ action.Append (x ∷ []) ∷ []) []
+          (tt, (inr (keeps changes is), tt))
 
   pub rotate_logs : KeptByPlain P → (client : ℕ) (d : Durable) (s : Soft) → Adds h me P d (rotate ring me d s client)
   unfolding rotate
@@ -64,7 +67,9 @@ module _ (ring : Layout) (h : History) (me : ℕ) (P : List Entry → Type 0) wh
     where
       go : (c : Option Cause) → Adds h me P d (elim c [ Some c ↦ refused s client c | None ↦ rotate_step ring me d s client (own_entry ring me d payload.Rotate) ])
       go (Some c) = tt
-      go None = let x : Entry = own_entry ring me d payload.Rotate in advance_logs ring h me P d s (action.Append (x ∷ []) ∷ []) (record { client = client; what = what.Rotated x.opid } ∷ []) (inr (plain d.log x refl), tt)
+      go None =
+          let x : Entry = own_entry ring me d payload.Rotate in
+          advance_logs ring h me P d s (action.Append (x ∷ []) ∷ []) (record { client = client; what = what.Rotated x.opid } ∷ []) (inr (plain d.log x refl), tt)
 
   -- ---- what a member does with an Append
   taken_logs : (kept : ℕ) (d e : Durable) (rest : List Entry) → Foreign h me e.term → Allowed (MayGrow h me P) e (take_in ring me d kept rest)
@@ -76,15 +81,18 @@ module _ (ring : Layout) (h : History) (me : ℕ) (P : List Entry → Type 0) wh
       go true false = (tt, (inl f, tt))
       go false c = (inl f, tt)
 
-  match_logs : (d : Durable) (s : Soft) (first : List Action) (says : List Say) (sent : Append) → Allowed (MayGrow h me P) d first → Foreign h me (all_done d first).term → Adds h me P d (match_append ring me d s first says sent)
+  match_logs : (d : Durable) (s : Soft) (first : List Action) (says : List Say) (sent : Append) → Allowed (MayGrow h me P) d first
+      → Foreign h me (all_done d first).term → Adds h me P d (match_append ring me d s first says sent)
   match_logs d s first says sent a f = go (nat_lt (length d.log) sent.prev.position) (term_at d.log sent.prev.position == sent.prev.term)
     where
       takes : Adds h me P d (accept ring me d s first says sent)
       takes =
           let rest = unmatched d.log sent.prev.position sent.entries in
-          let acts : List Action = take_in ring me d (kept_position sent.prev sent.entries rest) rest in
+          let kept = kept_position sent.prev sent.entries rest in
+          let e : Durable = all_done d first in
+          let acts : List Action = take_in ring me d kept rest in
           allowed_join (MayGrow h me P) d first _ a
-          (allowed_join (MayGrow h me P) (all_done d first) acts _ (taken_logs (kept_position sent.prev sent.entries rest) d (all_done d first) rest f) (follow_logs ring h me P (all_done (all_done d first) acts) _))
+          (allowed_join (MayGrow h me P) e acts _ (taken_logs kept d e rest f) (follow_logs ring h me P (all_done e acts) _))
 
       go : (b c : Bool) → Adds h me P d (if b then stepped first (reply me sent.leader sent.term false (length d.log) ∷ []) says s
           else (if c then accept ring me d s first says sent else stepped first (reply me sent.leader sent.term false (sent.prev.position - 1) ∷ []) says s))
@@ -92,7 +100,8 @@ module _ (ring : Layout) (h : History) (me : ℕ) (P : List Entry → Type 0) wh
       go false true = takes
       go false false = a
 
-  follow_append_logs : (d : Durable) (s : Soft) (sent : Append) → nat_lt sent.term d.term ≡ false → Foreign h me sent.term → Adds h me P d (follow_append ring me d s sent)
+  follow_append_logs : (d : Durable) (s : Soft) (sent : Append) → nat_lt sent.term d.term ≡ false → Foreign h me sent.term
+      → Adds h me P d (follow_append ring me d s sent)
   follow_append_logs d s sent low f = go (nat_lt d.term sent.term) refl s.role
     where
       go : (b : Bool) → nat_lt d.term sent.term ≡ b → (o : Role)

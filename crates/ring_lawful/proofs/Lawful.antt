@@ -24,7 +24,8 @@ unready : (s : Soft) (n : ℕ) → is_leader s.role ≡ true → (nat_le s.ready
 unready s n led (inr end) is = end
 unready s n led (inl before) is = absurd (let z : is_ready s ≡ true = rw (led, before) refl in let y : true ≡ false = sym z ∙ is in cc)
 
-pub lawful_from : (ring : Layout) (id : ℕ) (d : Durable) (s : Soft) → IsSound ring id d → KeepsCounts d s → RunsEngine ring id d s → IsShort d s → SoftFits ring id d.log s → IsLawful ring id d s
+pub lawful_from : (ring : Layout) (id : ℕ) (d : Durable) (s : Soft) → IsSound ring id d → KeepsCounts d s → RunsEngine ring id d s → IsShort d s
+    → SoftFits ring id d.log s → IsLawful ring id d s
 lawful_from ring id d s sound c p short x = record {
   sound = sound;
   pairs_in_log = p.pairs_in_log;

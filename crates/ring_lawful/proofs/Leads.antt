@@ -59,7 +59,8 @@ abbrev pub SoftStep : Layout → ℕ → Durable → Step → Type 0
 SoftStep ring me d st = SoftFits ring me (all_done d st.plan.actions).log st.soft
 
 -- ---- a node that does not lead
-pub stands : (ring : Layout) (me : ℕ) (log : List Entry) (s : Soft) → is_leader s.role ≡ false → (votes ring me ≡ false → s.role ≡ Follower) → s.pending ≡ [] → s.transfer ≡ transfer.Off → MockFits ring me s.mock → SoftFits ring me log s
+pub stands : (ring : Layout) (me : ℕ) (log : List Entry) (s : Soft) → is_leader s.role ≡ false → (votes ring me ≡ false → s.role ≡ Follower) → s.pending ≡ []
+    → s.transfer ≡ transfer.Off → MockFits ring me s.mock → SoftFits ring me log s
 stands ring me log s led learner none off m = record {
   learner = learner;
   alone = λ is. (none, off);
@@ -77,7 +78,8 @@ rises_filter : (q : Pending → Bool) (ps : List Pending) → Rises ps → Rises
 rises_filter q [] r = tt
 rises_filter q (p ∷ ps) r = go (q p) refl (rises_filter q ps r.1) (all_filter (λ (x : Pending). nat_lt p.opid.position x.opid.position) q ps r.0)
   where
-    go : (b : Bool) → q p ≡ b → Rises (filter q ps) → list_all (λ (x : Pending). nat_lt p.opid.position x.opid.position) (filter q ps) ≡ true → Rises (filter q (p ∷ ps))
+    go : (b : Bool) → q p ≡ b → Rises (filter q ps) → list_all (λ (x : Pending). nat_lt p.opid.position x.opid.position) (filter q ps) ≡ true
+        → Rises (filter q (p ∷ ps))
     go true is rest above = rw is (above, rest)
     go false is rest above = rw is rest
 
@@ -98,7 +100,8 @@ unsettled : (c position : ℕ) → not (nat_le position c) ≡ true → c < posi
 unsettled c position is = grind (arith, nat_tests, is)
 
 -- ---- a leader's step
-advance_fits : (ring : Layout) (me : ℕ) (log : List Entry) (s : Soft) (c : ℕ) → SoftFits ring me log s → s.commit ≤ c → SoftFits ring me log (record s { commit = c; pending = waiting c s.pending })
+advance_fits : (ring : Layout) (me : ℕ) (log : List Entry) (s : Soft) (c : ℕ) → SoftFits ring me log s → s.commit ≤ c
+    → SoftFits ring me log (record s { commit = c; pending = waiting c s.pending })
 advance_fits ring me log s c x low = record {
   learner = x.learner;
   alone = λ is. (let a = x.alone is in (ap (waiting c) a.0, a.1));
@@ -118,7 +121,8 @@ advance_fits ring me log s c x low = record {
   mock = x.mock;
 }
 
-pub advance_soft : (ring : Layout) (me : ℕ) (d : Durable) (s : Soft) (first : List Action) (says : List Say) → SoftFits ring me (all_done d first).log s → s.commit ≤ length (all_done d first).log → SoftStep ring me d (advance ring me d s first says)
+pub advance_soft : (ring : Layout) (me : ℕ) (d : Durable) (s : Soft) (first : List Action) (says : List Say) → SoftFits ring me (all_done d first).log s
+    → s.commit ≤ length (all_done d first).log → SoftStep ring me d (advance ring me d s first says)
 unfolding advance
 advance_soft ring me d s first says x inside =
     let e : Durable = all_done d first in
@@ -128,11 +132,13 @@ advance_soft ring me d s first says x inside =
     subst (λ (w : List Entry). SoftFits ring me w (record s { commit = c; pending = waiting c s.pending })) (sym l) (advance_fits ring me e.log s c x b.0)
 
 -- ---- peers
-first_are_others : (me next : ℕ) (members : List Member) → map (λ (p : Peer). p.node) (first_peers me next members) ≡ map (λ (m : Member). m.id) (filter (λ (m : Member). not (m.id == me)) members)
+first_are_others : (me next : ℕ) (members : List Member)
+    → map (λ (p : Peer). p.node) (first_peers me next members) ≡ map (λ (m : Member). m.id) (filter (λ (m : Member). not (m.id == me)) members)
 first_are_others me next [] = refl
 first_are_others me next (m ∷ members) = go (m.id == me) refl (first_are_others me next members)
   where
-    go : (b : Bool) → (m.id == me) ≡ b → map (λ (p : Peer). p.node) (first_peers me next members) ≡ map (λ (m : Member). m.id) (filter (λ (m : Member). not (m.id == me)) members)
+    go : (b : Bool) → (m.id == me) ≡ b
+        → map (λ (p : Peer). p.node) (first_peers me next members) ≡ map (λ (m : Member). m.id) (filter (λ (m : Member). not (m.id == me)) members)
         → map (λ (p : Peer). p.node) (first_peers me next (m ∷ members)) ≡ map (λ (m : Member). m.id) (filter (λ (m : Member). not (m.id == me)) (m ∷ members))
     go true is rest = rw is rest
     go false is rest = rw is (ap (λ (ids : List ℕ). m.id ∷ ids) rest)
@@ -141,7 +147,8 @@ first_silent : (me next : ℕ) (members : List Member) → list_all (λ (p : Pee
 first_silent me next [] = refl
 first_silent me next (m ∷ members) = go (m.id == me) refl (first_silent me next members)
   where
-    go : (b : Bool) → (m.id == me) ≡ b → list_all (λ (p : Peer). nat_le p.silent 3) (first_peers me next members) ≡ true → list_all (λ (p : Peer). nat_le p.silent 3) (first_peers me next (m ∷ members)) ≡ true
+    go : (b : Bool) → (m.id == me) ≡ b → list_all (λ (p : Peer). nat_le p.silent 3) (first_peers me next members) ≡ true
+        → list_all (λ (p : Peer). nat_le p.silent 3) (first_peers me next (m ∷ members)) ≡ true
     go true is rest = rw is rest
     go false is rest = rw is rest
 
@@ -149,21 +156,26 @@ heard_same : (p : Peer) (ok : Bool) (position : ℕ) → ((heard_from p ok posit
 heard_same p true position = (refl, refl)
 heard_same p false position = (refl, refl)
 
-pub heard_nodes : (peers : List Peer) (from : ℕ) (ok : Bool) (position : ℕ) → map (λ (p : Peer). p.node) (heard_among peers from ok position) ≡ map (λ (p : Peer). p.node) peers
+pub heard_nodes : (peers : List Peer) (from : ℕ) (ok : Bool) (position : ℕ)
+    → map (λ (p : Peer). p.node) (heard_among peers from ok position) ≡ map (λ (p : Peer). p.node) peers
 heard_nodes [] from ok position = refl
 heard_nodes (p ∷ peers) from ok position = go (p.node == from) refl (heard_nodes peers from ok position)
   where
-    go : (b : Bool) → (p.node == from) ≡ b → map (λ (p : Peer). p.node) (heard_among peers from ok position) ≡ map (λ (p : Peer). p.node) peers → map (λ (p : Peer). p.node) (heard_among (p ∷ peers) from ok position) ≡ map (λ (p : Peer). p.node) (p ∷ peers)
+    go : (b : Bool) → (p.node == from) ≡ b → map (λ (p : Peer). p.node) (heard_among peers from ok position) ≡ map (λ (p : Peer). p.node) peers
+        → map (λ (p : Peer). p.node) (heard_among (p ∷ peers) from ok position) ≡ map (λ (p : Peer). p.node) (p ∷ peers)
     go true is rest = rw is (ap (λ (n : ℕ). n ∷ map (λ (p : Peer). p.node) (heard_among peers from ok position)) (heard_same p ok position).0 ∙ ap (λ (ns : List ℕ). p.node ∷ ns) rest)
     go false is rest = rw is (ap (λ (ns : List ℕ). p.node ∷ ns) rest)
 
-pub heard_silent : (peers : List Peer) (from : ℕ) (ok : Bool) (position : ℕ) → list_all (λ (p : Peer). nat_le p.silent 3) peers ≡ true → list_all (λ (p : Peer). nat_le p.silent 3) (heard_among peers from ok position) ≡ true
+pub heard_silent : (peers : List Peer) (from : ℕ) (ok : Bool) (position : ℕ) → list_all (λ (p : Peer). nat_le p.silent 3) peers ≡ true
+    → list_all (λ (p : Peer). nat_le p.silent 3) (heard_among peers from ok position) ≡ true
 heard_silent [] from ok position t = refl
 heard_silent (p ∷ peers) from ok position t =
     let z = both_true (nat_le p.silent 3) (list_all (λ (p : Peer). nat_le p.silent 3) peers) t in
     go (p.node == from) refl z.0 (heard_silent peers from ok position z.1)
   where
-    go : (b : Bool) → (p.node == from) ≡ b → nat_le p.silent 3 ≡ true → list_all (λ (p : Peer). nat_le p.silent 3) (heard_among peers from ok position) ≡ true → list_all (λ (p : Peer). nat_le p.silent 3) (heard_among (p ∷ peers) from ok position) ≡ true
+    go : (b : Bool) → (p.node == from) ≡ b → nat_le p.silent 3 ≡ true
+        → list_all (λ (p : Peer). nat_le p.silent 3) (heard_among peers from ok position) ≡ true
+        → list_all (λ (p : Peer). nat_le p.silent 3) (heard_among (p ∷ peers) from ok position) ≡ true
     go true is here rest = let y = (heard_same p ok position).1 in let w : nat_le (heard_from p ok position).silent 3 ≡ true = ap (λ (n : ℕ). nat_le n 3) y in rw (is, w) rest
     go false is here rest = rw (is, here) rest
 
@@ -183,7 +195,8 @@ quieter_silent [] = refl
 quieter_silent (p ∷ peers) = let y = quieter_low p.silent in rw y (quieter_silent peers)
 
 -- ---- winning
-pub ask_soft : (ring : Layout) (me : ℕ) (d : Durable) (s : Soft) (first : List Action) (says : List Say) (grants : List Grant) (asks : List Message) → votes ring me ≡ true → s.pending ≡ [] → s.transfer ≡ transfer.Off → MockFits ring me s.mock
+pub ask_soft : (ring : Layout) (me : ℕ) (d : Durable) (s : Soft) (first : List Action) (says : List Say) (grants : List Grant) (asks : List Message)
+    → votes ring me ≡ true → s.pending ≡ [] → s.transfer ≡ transfer.Off → MockFits ring me s.mock
     → s.commit ≤ length (all_done d first).log → SoftStep ring me d (lead_or_ask ring me d s first says grants asks)
 unfolding lead_or_ask
 ask_soft ring me d s first says grants asks may none off m inside = go (has_won ring me (all_done d first) grants)

@@ -39,15 +39,18 @@ voter_is ring me log s x role = go (votes ring me) refl
     go true is = is
     go false is = absurd (let z : Candidate ≡ Follower = sym role ∙ x.learner is in cc)
 
-pub reply_soft : (ring : Layout) (me from : ℕ) (reply : VoteReply) (d : Durable) (s : Soft) → SoftFits ring me d.log s → s.commit ≤ length d.log → SoftStep ring me d (on_reply ring me d s from reply)
+pub reply_soft : (ring : Layout) (me from : ℕ) (reply : VoteReply) (d : Durable) (s : Soft) → SoftFits ring me d.log s → s.commit ≤ length d.log
+    → SoftStep ring me d (on_reply ring me d s from reply)
 unfolding on_reply
 reply_soft ring me from reply d s x inside = go s.role refl
   where
-    count : s.role ≡ Candidate → (b : Bool) → SoftStep ring me d (if b then lead_or_ask ring me d s [] [] (s.grants ++ record { voter = from; votes = reply.votes } ∷ []) [] else idle s)
+    count : s.role ≡ Candidate → (b : Bool)
+        → SoftStep ring me d (if b then lead_or_ask ring me d s [] [] (s.grants ++ record { voter = from; votes = reply.votes } ∷ []) [] else idle s)
     count role true = let a = x.alone (ap is_leader role) in ask_soft ring me d s [] [] (s.grants ++ record { voter = from; votes = reply.votes } ∷ []) [] (voter_is ring me d.log s x role) a.0 a.1 x.mock inside
     count role false = x
 
-    hears : s.role ≡ Candidate → (b : Bool) → SoftStep ring me d (if b then stepped (action.SetTerm reply.term ∷ []) [] (unknowns s) (demoted s) else count_grant ring me d s from reply)
+    hears : s.role ≡ Candidate → (b : Bool)
+        → SoftStep ring me d (if b then stepped (action.SetTerm reply.term ∷ []) [] (unknowns s) (demoted s) else count_grant ring me d s from reply)
     hears role true = demoted_fits ring me d.log s
     hears role false = count role (reply.granted && reply.term == d.term && not (has_granted s.grants from))
 
@@ -57,7 +60,8 @@ reply_soft ring me from reply d s x inside = go s.role refl
     go Leader role = x
 
 -- ---- votes
-answer_soft : (ring : Layout) (me : ℕ) (d : Durable) (o : Soft) (first : List Action) (says : List Say) (from : ℕ) (asked : RequestVote) → SoftFits ring me (all_done d first).log o → SoftStep ring me d (answer_request ring me d o first says from asked)
+answer_soft : (ring : Layout) (me : ℕ) (d : Durable) (o : Soft) (first : List Action) (says : List Say) (from : ℕ) (asked : RequestVote)
+    → SoftFits ring me (all_done d first).log o → SoftStep ring me d (answer_request ring me d o first says from asked)
 answer_soft ring me d o first says from asked x = go (vote_in d.votes asked.term)
   where
     kept : (c : Bool) → SoftStep ring me d (if c then granted_now me d o first says from asked else refused_now me o first says from asked.term)
@@ -73,7 +77,8 @@ answer_soft ring me d o first says from asked x = go (vote_in d.votes asked.term
     go (Some w) = kept (w.candidate == from)
     go None = fresh (at_least asked.last (last d.log)) (has_room (floor_of d o) d.votes)
 
-pub request_soft : (ring : Layout) (me from : ℕ) (asked : RequestVote) (d : Durable) (s : Soft) → SoftFits ring me d.log s → SoftStep ring me d (on_request ring me d s from asked)
+pub request_soft : (ring : Layout) (me from : ℕ) (asked : RequestVote) (d : Durable) (s : Soft) → SoftFits ring me d.log s
+    → SoftStep ring me d (on_request ring me d s from asked)
 unfolding on_request
 request_soft ring me from asked d s x = voter (votes ring me)
   where

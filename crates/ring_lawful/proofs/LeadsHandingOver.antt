@@ -32,7 +32,8 @@ use Rattle.ring_lawful.proofs.Leads.{SoftFits, SoftStep}
 use Rattle.ring_lawful.proofs.LeadsElections.{elect_soft}
 
 -- ---- handing over
-with_transfer : (ring : Layout) (me : ℕ) (log : List Entry) (s : Soft) (t : Transfer) (rounds : ℕ) → SoftFits ring me log s → TransferFits ring me t → (is_leader s.role ≡ false → t ≡ transfer.Off) → SoftFits ring me log (record s { rounds = rounds; transfer = t })
+with_transfer : (ring : Layout) (me : ℕ) (log : List Entry) (s : Soft) (t : Transfer) (rounds : ℕ) → SoftFits ring me log s → TransferFits ring me t
+    → (is_leader s.role ≡ false → t ≡ transfer.Off) → SoftFits ring me log (record s { rounds = rounds; transfer = t })
 with_transfer ring me log s t rounds x fits alone = record {
   learner = x.learner;
   alone = λ is. ((x.alone is).0, alone is);
@@ -42,7 +43,8 @@ with_transfer ring me log s t rounds x fits alone = record {
   mock = x.mock;
 }
 
-with_mock : (ring : Layout) (me : ℕ) (log : List Entry) (s : Soft) (m : Mock) → SoftFits ring me log s → MockFits ring me m → SoftFits ring me log (record s { mock = m })
+with_mock : (ring : Layout) (me : ℕ) (log : List Entry) (s : Soft) (m : Mock) → SoftFits ring me log s → MockFits ring me m
+    → SoftFits ring me log (record s { mock = m })
 with_mock ring me log s m x fits = record {
   learner = x.learner;
   alone = x.alone;
@@ -71,11 +73,13 @@ may_move ring me s target is = go (is_leader s.role) refl (is_ready s) (is_off s
     go true x true true false false y false z is = absurd cc
     go true x true true false false y true z is = record { leads = x; other = y; voter = z }
 
-pub transfer_soft : (ring : Layout) (me client target : ℕ) (d : Durable) (s : Soft) → SoftFits ring me d.log s → SoftStep ring me d (ask_transfer ring me d s client target)
+pub transfer_soft : (ring : Layout) (me client target : ℕ) (d : Durable) (s : Soft) → SoftFits ring me d.log s
+    → SoftStep ring me d (ask_transfer ring me d s client target)
 unfolding ask_transfer
 transfer_soft ring me client target d s x = go (transfer_refusal ring me s target) refl
   where
-    go : (c : Option Cause) → transfer_refusal ring me s target ≡ c → SoftStep ring me d (elim c [ Some c ↦ refused s client c | None ↦ begin_round me d s client target ])
+    go : (c : Option Cause) → transfer_refusal ring me s target ≡ c
+        → SoftStep ring me d (elim c [ Some c ↦ refused s client c | None ↦ begin_round me d s client target ])
     go (Some c) is = x
     go None is =
         let m = may_move ring me s target is in
@@ -89,7 +93,8 @@ cancel_soft ring me client d s x = go (is_off s.transfer)
     go true = x
     go false = with_transfer ring me d.log s transfer.Off s.rounds x tt (λ is. refl)
 
-pub start_soft : (ring : Layout) (me from : ℕ) (sent : MockStart) (d : Durable) (s : Soft) → SoftFits ring me d.log s → is_other ring me from ≡ true → SoftStep ring me d (on_mock_start ring me d s from sent)
+pub start_soft : (ring : Layout) (me from : ℕ) (sent : MockStart) (d : Durable) (s : Soft) → SoftFits ring me d.log s → is_other ring me from ≡ true
+    → SoftStep ring me d (on_mock_start ring me d s from sent)
 unfolding on_mock_start
 start_soft ring me from sent d s x other = go (sent.term == d.term && votes ring me && is_follower s.role && not (is_old_round s.mock from sent.round))
   where
@@ -104,7 +109,8 @@ start_soft ring me from sent d s x other = go (sent.term == d.term && votes ring
     go true = with_mock ring me d.log s (mock.On from sent.round sent.last (own_passed me d sent) (own_failed me d sent)) x fits
     go false = x
 
-pub asked_soft : (ring : Layout) (me from : ℕ) (sent : MockRequest) (d : Durable) (s : Soft) → SoftFits ring me d.log s → SoftStep ring me d (on_mock_request ring me d s from sent)
+pub asked_soft : (ring : Layout) (me from : ℕ) (sent : MockRequest) (d : Durable) (s : Soft) → SoftFits ring me d.log s
+    → SoftStep ring me d (on_mock_request ring me d s from sent)
 unfolding on_mock_request
 asked_soft ring me from sent d s x = go (sent.term == d.term && votes ring me)
   where
@@ -112,7 +118,8 @@ asked_soft ring me from sent d s x = go (sent.term == d.term && votes ring me)
     go true = x
     go false = x
 
-count_soft : (ring : Layout) (me from : ℕ) (answer : MockReply) (d : Durable) (s : Soft) (leader : ℕ) (asked : Opid) (passed failed : List ℕ) → SoftFits ring me d.log s → ((leader == me) ≡ false) × (is_member ring leader ≡ true)
+count_soft : (ring : Layout) (me from : ℕ) (answer : MockReply) (d : Durable) (s : Soft) (leader : ℕ) (asked : Opid) (passed failed : List ℕ)
+    → SoftFits ring me d.log s → ((leader == me) ≡ false) × (is_member ring leader ≡ true)
     → SoftStep ring me d (count_answer ring me d s from answer leader asked passed failed)
 count_soft ring me from answer d s leader asked passed failed x fits = go (is_listed passed from || is_listed failed from) answer.ok
   where
@@ -122,7 +129,8 @@ count_soft ring me from answer d s leader asked passed failed x fits = go (is_li
     go false true = with_mock ring me d.log s (mock.On leader answer.round asked (passed ++ from ∷ []) failed) x fits
     go false false = with_mock ring me d.log s (mock.On leader answer.round asked passed (failed ++ from ∷ [])) x fits
 
-heard_soft : (ring : Layout) (me from : ℕ) (answer : MockReply) (d : Durable) (s : Soft) (m : Mock) → SoftFits ring me d.log s → MockFits ring me m → SoftStep ring me d (mock_hears ring me d s from answer m)
+heard_soft : (ring : Layout) (me from : ℕ) (answer : MockReply) (d : Durable) (s : Soft) (m : Mock) → SoftFits ring me d.log s → MockFits ring me m
+    → SoftStep ring me d (mock_hears ring me d s from answer m)
 heard_soft ring me from answer d s mock.Off x fits = x
 heard_soft ring me from answer d s (mock.On leader round asked passed failed) x fits = go (answer.term == d.term && answer.round == round)
   where
@@ -130,11 +138,13 @@ heard_soft ring me from answer d s (mock.On leader round asked passed failed) x 
     go true = count_soft ring me from answer d s leader asked passed failed x fits
     go false = x
 
-pub mock_reply_soft : (ring : Layout) (me from : ℕ) (answer : MockReply) (d : Durable) (s : Soft) → SoftFits ring me d.log s → SoftStep ring me d (on_mock_reply ring me d s from answer)
+pub mock_reply_soft : (ring : Layout) (me from : ℕ) (answer : MockReply) (d : Durable) (s : Soft) → SoftFits ring me d.log s
+    → SoftStep ring me d (on_mock_reply ring me d s from answer)
 unfolding on_mock_reply
 mock_reply_soft ring me from answer d s x = heard_soft ring me from answer d s s.mock x x.mock
 
-transfer_heard : (ring : Layout) (me : ℕ) (d : Durable) (s : Soft) (sent : MockResult) (t : Transfer) → s.transfer ≡ t → SoftFits ring me d.log s → TransferFits ring me t → SoftStep ring me d (transfer_hears me d s sent t)
+transfer_heard : (ring : Layout) (me : ℕ) (d : Durable) (s : Soft) (sent : MockResult) (t : Transfer) → s.transfer ≡ t → SoftFits ring me d.log s
+    → TransferFits ring me t → SoftStep ring me d (transfer_hears me d s sent t)
 transfer_heard ring me d s sent transfer.Off is x fits = x
 transfer_heard ring me d s sent (transfer.Handing target client) is x fits = x
 transfer_heard ring me d s sent (transfer.Mock target round client) is x fits = go (sent.term == d.term && sent.round == round) sent.ok
@@ -144,11 +154,13 @@ transfer_heard ring me d s sent (transfer.Mock target round client) is x fits = 
     go true false = with_transfer ring me d.log s transfer.Off s.rounds x tt (λ led. refl)
     go false ok = x
 
-pub mock_result_soft : (ring : Layout) (me : ℕ) (sent : MockResult) (d : Durable) (s : Soft) → SoftFits ring me d.log s → SoftStep ring me d (on_mock_result me d s sent)
+pub mock_result_soft : (ring : Layout) (me : ℕ) (sent : MockResult) (d : Durable) (s : Soft) → SoftFits ring me d.log s
+    → SoftStep ring me d (on_mock_result me d s sent)
 unfolding on_mock_result
 mock_result_soft ring me sent d s x = transfer_heard ring me d s sent s.transfer refl x x.transfer
 
-pub timeout_soft : (ring : Layout) (me : ℕ) (d : Durable) (s : Soft) (term : ℕ) → SoftFits ring me d.log s → s.commit ≤ length d.log → SoftStep ring me d (on_timeout ring me d s term)
+pub timeout_soft : (ring : Layout) (me : ℕ) (d : Durable) (s : Soft) (term : ℕ) → SoftFits ring me d.log s → s.commit ≤ length d.log
+    → SoftStep ring me d (on_timeout ring me d s term)
 unfolding on_timeout
 timeout_soft ring me d s term x inside = go (term == d.term && votes ring me && not (is_leader s.role))
   where
@@ -156,6 +168,7 @@ timeout_soft ring me d s term x inside = go (term == d.term && votes ring me && 
     go true = elect_soft ring me d s x inside
     go false = x
 
-pub relay_soft : (ring : Layout) (me from : ℕ) (sent : ProxyAppend) (d : Durable) (s : Soft) → SoftFits ring me d.log s → SoftStep ring me d (relay me d s from sent)
+pub relay_soft : (ring : Layout) (me from : ℕ) (sent : ProxyAppend) (d : Durable) (s : Soft) → SoftFits ring me d.log s
+    → SoftStep ring me d (relay me d s from sent)
 unfolding relay
 relay_soft ring me from sent d s x = x

@@ -30,7 +30,8 @@ with_peers : (ring : Layout) (me : ℕ) (log : List Entry) (s : Soft) (peers : L
     → (LeaderFits ring me log s → LeaderFits ring me log (record s { peers = peers })) → SoftFits ring me log (record s { peers = peers })
 with_peers ring me log s peers x fits = record { learner = x.learner; alone = x.alone; leads = λ is. fits (x.leads is); rises = x.rises; transfer = x.transfer; mock = x.mock }
 
-hears_soft : (ring : Layout) (me from : ℕ) (answer : AppendReply) (d : Durable) (s : Soft) → SoftFits ring me d.log s → s.commit ≤ length d.log → SoftStep ring me d (leader_hears ring me d s from answer)
+hears_soft : (ring : Layout) (me from : ℕ) (answer : AppendReply) (d : Durable) (s : Soft) → SoftFits ring me d.log s → s.commit ≤ length d.log
+    → SoftStep ring me d (leader_hears ring me d s from answer)
 hears_soft ring me from answer d s x inside =
     advance_soft ring me d (record s { peers = heard_among s.peers from answer.ok answer.position }) [] []
     (with_peers ring me d.log s (heard_among s.peers from answer.ok answer.position) x (λ l. record {
@@ -43,7 +44,8 @@ hears_soft ring me from answer d s x inside =
       waits = l.waits;
     })) inside
 
-ack_soft : (ring : Layout) (me from : ℕ) (answer : AppendReply) (d : Durable) (s : Soft) → SoftFits ring me d.log s → s.commit ≤ length d.log → SoftStep ring me d (on_ack ring me d s from answer)
+ack_soft : (ring : Layout) (me from : ℕ) (answer : AppendReply) (d : Durable) (s : Soft) → SoftFits ring me d.log s → s.commit ≤ length d.log
+    → SoftStep ring me d (on_ack ring me d s from answer)
 unfolding on_ack
 ack_soft ring me from answer d s x inside = go (nat_lt d.term answer.term) (counts d s answer)
   where
@@ -52,7 +54,8 @@ ack_soft ring me from answer d s x inside = go (nat_lt d.term answer.term) (coun
     go false true = hears_soft ring me from answer d s x inside
     go false false = x
 
-pub answered_soft : (ring : Layout) (me from : ℕ) (answer : AppendReply) (d : Durable) (s : Soft) → SoftFits ring me d.log s → s.commit ≤ length d.log → SoftStep ring me d (on_answer ring me d s from answer)
+pub answered_soft : (ring : Layout) (me from : ℕ) (answer : AppendReply) (d : Durable) (s : Soft) → SoftFits ring me d.log s → s.commit ≤ length d.log
+    → SoftStep ring me d (on_answer ring me d s from answer)
 unfolding on_answer
 answered_soft ring me from answer d s x inside = go (counts d s answer && answer.ok)
   where
@@ -103,7 +106,8 @@ pushed ring me log s x ready f = record {
   mock = f.mock;
 }
 
-pub write_soft : (ring : Layout) (me client : ℕ) (changes : List Change) (d : Durable) (s : Soft) → SoftFits ring me d.log s → s.commit ≤ length d.log → SoftStep ring me d (write ring me d s client changes)
+pub write_soft : (ring : Layout) (me client : ℕ) (changes : List Change) (d : Durable) (s : Soft) → SoftFits ring me d.log s → s.commit ≤ length d.log
+    → SoftStep ring me d (write ring me d s client changes)
 unfolding write
 write_soft ring me client changes d s x inside = go (write_refusal ring me d s changes) refl
   where
@@ -138,11 +142,13 @@ write_soft ring me client changes d s x inside = go (write_refusal ring me d s c
           mock = f.mock;
         }) (omega (arith, inside, n))
 
-pub rotate_soft : (ring : Layout) (me client : ℕ) (d : Durable) (s : Soft) → SoftFits ring me d.log s → s.commit ≤ length d.log → SoftStep ring me d (rotate ring me d s client)
+pub rotate_soft : (ring : Layout) (me client : ℕ) (d : Durable) (s : Soft) → SoftFits ring me d.log s → s.commit ≤ length d.log
+    → SoftStep ring me d (rotate ring me d s client)
 unfolding rotate
 rotate_soft ring me client d s x inside = go (rotate_refusal ring me d s) refl
   where
-    go : (c : Option Cause) → rotate_refusal ring me d s ≡ c → SoftStep ring me d (elim c [ Some c ↦ refused s client c | None ↦ rotate_step ring me d s client (own_entry ring me d payload.Rotate) ])
+    go : (c : Option Cause) → rotate_refusal ring me d s ≡ c
+        → SoftStep ring me d (elim c [ Some c ↦ refused s client c | None ↦ rotate_step ring me d s client (own_entry ring me d payload.Rotate) ])
     go (Some c) is = x
     go None is =
         let e : Entry = own_entry ring me d payload.Rotate in

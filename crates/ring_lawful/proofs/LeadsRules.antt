@@ -28,7 +28,8 @@ use Rattle.ring_lawful.proofs.LeadsOwn.{answered_soft, beat_soft, rotate_soft, w
 use Rattle.ring_lawful.proofs.LeadsHandingOver.{asked_soft, cancel_soft, mock_reply_soft, mock_result_soft, relay_soft, start_soft, timeout_soft, transfer_soft}
 
 -- ---- what a member does with an Append: it follows, so its log does not count
-match_soft : (ring : Layout) (me : ℕ) (d : Durable) (s : Soft) (first : List Action) (says : List Say) (sent : Append) → s.role ≡ Follower → s.pending ≡ [] → s.transfer ≡ transfer.Off → MockFits ring me s.mock → SoftStep ring me d (match_append ring me d s first says sent)
+match_soft : (ring : Layout) (me : ℕ) (d : Durable) (s : Soft) (first : List Action) (says : List Say) (sent : Append) → s.role ≡ Follower → s.pending ≡ []
+    → s.transfer ≡ transfer.Off → MockFits ring me s.mock → SoftStep ring me d (match_append ring me d s first says sent)
 match_soft ring me d s first says sent role none off m = go (nat_lt (length d.log) sent.prev.position) (term_at d.log sent.prev.position == sent.prev.term)
   where
     go : (b c : Bool) → SoftStep ring me d (if b then stepped first (reply me sent.leader sent.term false (length d.log) ∷ []) says s
@@ -61,7 +62,8 @@ append_soft ring me sent d s x = go (outgrows d sent) (nat_lt sent.term d.term) 
     go false false false None = follow_soft ring me d s sent x
 
 -- ---- any input
-body_soft : (ring : Layout) (me from : ℕ) (d : Durable) (s : Soft) (b : Body) → SoftFits ring me d.log s → s.commit ≤ length d.log → is_foreign_body ring me from b ≡ false → SoftStep ring me d (body_step ring me d s from b)
+body_soft : (ring : Layout) (me from : ℕ) (d : Durable) (s : Soft) (b : Body) → SoftFits ring me d.log s → s.commit ≤ length d.log
+    → is_foreign_body ring me from b ≡ false → SoftStep ring me d (body_step ring me d s from b)
 body_soft ring me from d s (body.RequestVote asked) x inside own = request_soft ring me from asked d s x
 body_soft ring me from d s (body.VoteReply reply) x inside own = reply_soft ring me from reply d s x inside
 body_soft ring me from d s (body.Append sent) x inside own = append_soft ring me sent d s x
@@ -82,7 +84,8 @@ body_soft ring me from d s (body.ClientTransfer target) x inside own = transfer_
 body_soft ring me from d s body.ClientCancel x inside own = cancel_soft ring me from d s x
 body_soft ring me from d s (body.ClientReply what) x inside own = x
 
-pub step_soft : (ring : Layout) (me : ℕ) (d : Durable) (s : Soft) (i : Input) → SoftFits ring me d.log s → s.commit ≤ length d.log → SoftStep ring me d (step ring me d s i)
+pub step_soft : (ring : Layout) (me : ℕ) (d : Durable) (s : Soft) (i : Input) → SoftFits ring me d.log s → s.commit ≤ length d.log
+    → SoftStep ring me d (step ring me d s i)
 step_soft ring me d s input.Elect x inside = elect_soft ring me d s x inside
 step_soft ring me d s input.Beat x inside = beat_soft ring me d s x
 step_soft ring me d s (input.Deliver m) x inside = go (is_foreign ring me m) refl

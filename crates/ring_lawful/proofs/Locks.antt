@@ -40,20 +40,24 @@ refusal_alike : (schema : Schema) (T S : Tables) (c : Change) → holds_key sche
 unfolding refusal_of
 refusal_alike schema T S c is = go (place_in schema (table_name c)) is
   where
-    go : (o : Option ℕ) → key_in T (change_key c) o ≡ key_in S (change_key c) o → option_map_or (λ place. refusal_in schema T place c) o (Some NoTable) ≡ option_map_or (λ place. refusal_in schema S place c) o (Some NoTable)
+    go : (o : Option ℕ) → key_in T (change_key c) o ≡ key_in S (change_key c) o
+        → option_map_or (λ place. refusal_in schema T place c) o (Some NoTable) ≡ option_map_or (λ place. refusal_in schema S place c) o (Some NoTable)
     go None x = refl
     go (Some p) x = ap (λ (r : Option RowRefusal). if option_map_or (λ (t : Table). fits_table t c) (slice_get schema.tables p) false then r else Some BadRow) (refused_alike (rows_at T p) (rows_at S p) c x)
 
-set_alike : (T S : Tables) (c : Change) (key : Value) (o q : Option ℕ) → length T ≡ length S → key_in T key q ≡ key_in S key q → key_in (set_in T c o) key q ≡ key_in (set_in S c o) key q
+set_alike : (T S : Tables) (c : Change) (key : Value) (o q : Option ℕ) → length T ≡ length S → key_in T key q ≡ key_in S key q
+    → key_in (set_in T c o) key q ≡ key_in (set_in S c o) key q
 set_alike T S c key o None same is = refl
 set_alike T S c key None (Some r) same is = is
 set_alike T S c key (Some p) (Some r) same is = go (p == r) refl
   where
-    here : (b : Bool) → same_value (change_key c) key ≡ b → has_key (rows_at T p) key ≡ has_key (rows_at S p) key → has_key (rows_after (rows_at T p) c) key ≡ has_key (rows_after (rows_at S p) c) key
+    here : (b : Bool) → same_value (change_key c) key ≡ b → has_key (rows_at T p) key ≡ has_key (rows_at S p) key
+        → has_key (rows_after (rows_at T p) c) key ≡ has_key (rows_after (rows_at S p) c) key
     here true x y = after_here (rows_at T p) c key x ∙ sym (after_here (rows_at S p) c key x)
     here false x y = after_there (rows_at T p) c key x ∙ (y ∙ sym (after_there (rows_at S p) c key x))
 
-    within : (b : Bool) → nat_lt p (length T) ≡ b → has_key (rows_at T p) key ≡ has_key (rows_at S p) key → key_in (set_in T c (Some p)) key (Some p) ≡ key_in (set_in S c (Some p)) key (Some p)
+    within : (b : Bool) → nat_lt p (length T) ≡ b → has_key (rows_at T p) key ≡ has_key (rows_at S p) key
+        → key_in (set_in T c (Some p)) key (Some p) ≡ key_in (set_in S c (Some p)) key (Some p)
     within true x y =
         ap (λ (r : Rows). has_key r key) (set_here T p (rows_after (rows_at T p) c) (grind (arith, nat_tests, x)))
         ∙ (here (same_value (change_key c) key) refl y ∙ ap (λ (r : Rows). has_key r key) (sym (set_here S p (rows_after (rows_at S p) c) (grind (arith, nat_tests, x, same)))))
@@ -67,7 +71,8 @@ set_alike T S c key (Some p) (Some r) same is = go (p == r) refl
     go false x =
         ap (λ (w : Rows). has_key w key) (set_there T p r (rows_after (rows_at T p) c) x) ∙ (is ∙ ap (λ (w : Rows). has_key w key) (sym (set_there S p r (rows_after (rows_at S p) c) x)))
 
-changed_alike : (schema : Schema) (T S : Tables) (c x : Change) → length T ≡ length S → holds_key schema T x ≡ holds_key schema S x → holds_key schema (changed schema T c) x ≡ holds_key schema (changed schema S c) x
+changed_alike : (schema : Schema) (T S : Tables) (c x : Change) → length T ≡ length S → holds_key schema T x ≡ holds_key schema S x
+    → holds_key schema (changed schema T c) x ≡ holds_key schema (changed schema S c) x
 unfolding changed
 changed_alike schema T S c x same is = set_alike T S c (change_key x) (place_in schema (table_name c)) (place_in schema (table_name x)) same is
 
@@ -84,11 +89,13 @@ abbrev pub AllAlike : Schema → Tables → Tables → List Change → Type 0
 AllAlike schema T S [] = Unit {0}
 AllAlike schema T S (c ∷ changes) = (holds_key schema T c ≡ holds_key schema S c) × AllAlike schema T S changes
 
-all_alike : (schema : Schema) (T S : Tables) (c : Change) (changes : List Change) → length T ≡ length S → AllAlike schema T S changes → AllAlike schema (changed schema T c) (changed schema S c) changes
+all_alike : (schema : Schema) (T S : Tables) (c : Change) (changes : List Change) → length T ≡ length S → AllAlike schema T S changes
+    → AllAlike schema (changed schema T c) (changed schema S c) changes
 all_alike schema T S c [] same x = tt
 all_alike schema T S c (y ∷ changes) same x = (changed_alike schema T S c y same x.0, all_alike schema T S c changes same x.1)
 
-pub check_alike : (schema : Schema) (T S : Tables) (changes : List Change) → length T ≡ length S → AllAlike schema T S changes → check schema T changes ≡ check schema S changes
+pub check_alike : (schema : Schema) (T S : Tables) (changes : List Change) → length T ≡ length S → AllAlike schema T S changes
+    → check schema T changes ≡ check schema S changes
 check_alike schema T S [] same x = refl
 check_alike schema T S (c ∷ changes) same x =
     let more = check_alike schema (changed schema T c) (changed schema S c) changes (changed_length schema T c ∙ (same ∙ sym (changed_length schema S c))) (all_alike schema T S c changes same x.1) in
@@ -113,11 +120,13 @@ named ts a p d is =
     let y = passes_at_first (λ (t : Table). bytes_eq t.name a) ts d lt in
     subst (λ (n : ℕ). (get_or ts n d).name ≡ a) x.1 ((bytes_eq-Decides (get_or ts (position_or_len (λ (t : Table). bytes_eq t.name a) ts) d).name a).0 y)
 
-one_name : (ts : List Table) (a b : List ℕ) (p : ℕ) → position (λ (t : Table). bytes_eq t.name a) ts ≡ Some p → position (λ (t : Table). bytes_eq t.name b) ts ≡ Some p → a ≡ b
+one_name : (ts : List Table) (a b : List ℕ) (p : ℕ) → position (λ (t : Table). bytes_eq t.name a) ts ≡ Some p
+    → position (λ (t : Table). bytes_eq t.name b) ts ≡ Some p → a ≡ b
 one_name [] a b p x y = absurd cc
 one_name (t ∷ ts) a b p x y = sym (named (t ∷ ts) a p t x) ∙ named (t ∷ ts) b p t y
 
-set_apart : (T : Tables) (c : Change) (key : Value) (p r : ℕ) → same_value (change_key c) key ≡ false → key_in (set_in T c (Some p)) key (Some r) ≡ key_in T key (Some r)
+set_apart : (T : Tables) (c : Change) (key : Value) (p r : ℕ) → same_value (change_key c) key ≡ false
+    → key_in (set_in T c (Some p)) key (Some r) ≡ key_in T key (Some r)
 set_apart T c key p r other = go (p == r) refl
   where
     within : (b : Bool) → nat_lt p (length T) ≡ b → key_in (set_in T c (Some p)) key (Some p) ≡ key_in T key (Some p)
@@ -138,7 +147,8 @@ changed_apart : (schema : Schema) (T : Tables) (c x : Change) → same_key x c �
 unfolding changed
 changed_apart schema T c x apart = go (place_in schema (table_name c)) refl (place_in schema (table_name x)) refl (bytes_eq (table_name x) (table_name c)) refl (same_value (change_key x) (change_key c)) refl
   where
-    go : (o : Option ℕ) → place_in schema (table_name c) ≡ o → (q : Option ℕ) → place_in schema (table_name x) ≡ q → (a : Bool) → bytes_eq (table_name x) (table_name c) ≡ a → (b : Bool) → same_value (change_key x) (change_key c) ≡ b
+    go : (o : Option ℕ) → place_in schema (table_name c) ≡ o → (q : Option ℕ) → place_in schema (table_name x) ≡ q → (a : Bool)
+        → bytes_eq (table_name x) (table_name c) ≡ a → (b : Bool) → same_value (change_key x) (change_key c) ≡ b
         → key_in (set_in T c o) (change_key x) q ≡ key_in T (change_key x) q
     go o at None to a y b z = refl
     go None at (Some r) to a y b z = refl
@@ -155,7 +165,8 @@ changed_apart schema T c x apart = go (place_in schema (table_name c)) refl (pla
             let v : true ≡ false = sym w ∙ y in cc
             )
 
-changes_apart : (schema : Schema) (T : Tables) (changes : List Change) (x : Change) → list_any (same_key x) changes ≡ false → holds_key schema (all_changed schema T changes) x ≡ holds_key schema T x
+changes_apart : (schema : Schema) (T : Tables) (changes : List Change) (x : Change) → list_any (same_key x) changes ≡ false
+    → holds_key schema (all_changed schema T changes) x ≡ holds_key schema T x
 changes_apart schema T [] x none = refl
 changes_apart schema T (c ∷ changes) x none = go (same_key x c) refl none (changes_apart schema (changed schema T c) changes x)
   where
@@ -165,7 +176,8 @@ changes_apart schema T (c ∷ changes) x none = go (same_key x c) refl none (cha
     go true is y more = absurd cc
     go false is y more = more y ∙ changed_apart schema T c x is
 
-applied_apart : (schema : Schema) (T : Tables) (changes : List Change) (x : Change) → list_any (same_key x) changes ≡ false → holds_key schema (applied schema T changes) x ≡ holds_key schema T x
+applied_apart : (schema : Schema) (T : Tables) (changes : List Change) (x : Change) → list_any (same_key x) changes ≡ false
+    → holds_key schema (applied schema T changes) x ≡ holds_key schema T x
 applied_apart schema T changes x none = go (is_none (check schema T changes))
   where
     go : (b : Bool) → holds_key schema (if b then all_changed schema T changes else T) x ≡ holds_key schema T x
@@ -173,11 +185,13 @@ applied_apart schema T changes x none = go (is_none (check schema T changes))
     go false = refl
 
 -- entries whose transactions do not write the key of a change leave what the tables have of it
-key_stays : (schema : Schema) (T : Tables) (es : List Entry) (x : Change) → list_any (writes_key x) (pairs_in es) ≡ false → holds_key schema (rows_from schema T es) x ≡ holds_key schema T x
+key_stays : (schema : Schema) (T : Tables) (es : List Entry) (x : Change) → list_any (writes_key x) (pairs_in es) ≡ false
+    → holds_key schema (rows_from schema T es) x ≡ holds_key schema T x
 key_stays schema T [] x none = refl
 key_stays schema T (e ∷ es) x none = go (λ S n. key_stays schema S es x n) e.payload refl
   where
-    go : ((S : Tables) → list_any (writes_key x) (pairs_in es) ≡ false → holds_key schema (rows_from schema S es) x ≡ holds_key schema S x) → (p : Payload) → e.payload ≡ p
+    go : ((S : Tables) → list_any (writes_key x) (pairs_in es) ≡ false → holds_key schema (rows_from schema S es) x ≡ holds_key schema S x) → (p : Payload)
+        → e.payload ≡ p
         → holds_key schema (rows_from schema (after_payload schema T e.payload) es) x ≡ holds_key schema T x
     go more payload.NoOp is = rw is (more T (let u = rw is at none in u))
     go more payload.Rotate is = rw is (more T (let u = rw is at none in u))
@@ -185,15 +199,18 @@ key_stays schema T (e ∷ es) x none = go (λ S n. key_stays schema S es x n) e.
         let u : (list_any (same_key x) t.changes || list_any (writes_key x) (pairs_in es)) ≡ false = (let v = rw is at none in v) in
         rw is (one (list_any (same_key x) t.changes) refl u)
       where
-        one : (b : Bool) → list_any (same_key x) t.changes ≡ b → (b || list_any (writes_key x) (pairs_in es)) ≡ false → holds_key schema (rows_from schema (applied schema T t.changes) es) x ≡ holds_key schema T x
+        one : (b : Bool) → list_any (same_key x) t.changes ≡ b → (b || list_any (writes_key x) (pairs_in es)) ≡ false
+            → holds_key schema (rows_from schema (applied schema T t.changes) es) x ≡ holds_key schema T x
         one true y z = absurd cc
         one false y z = more (applied schema T t.changes) z ∙ applied_apart schema T t.changes x y
 
-pub keys_stay : (schema : Schema) (T : Tables) (es : List Entry) (changes : List Change) → list_any (is_held (pairs_in es)) changes ≡ false → AllAlike schema (rows_from schema T es) T changes
+pub keys_stay : (schema : Schema) (T : Tables) (es : List Entry) (changes : List Change) → list_any (is_held (pairs_in es)) changes ≡ false
+    → AllAlike schema (rows_from schema T es) T changes
 keys_stay schema T es [] none = tt
 keys_stay schema T es (x ∷ changes) none = go (is_held (pairs_in es) x) refl none (keys_stay schema T es changes)
   where
     go : (b : Bool) → is_held (pairs_in es) x ≡ b → (b || list_any (is_held (pairs_in es)) changes) ≡ false
-        → (list_any (is_held (pairs_in es)) changes ≡ false → AllAlike schema (rows_from schema T es) T changes) → AllAlike schema (rows_from schema T es) T (x ∷ changes)
+        → (list_any (is_held (pairs_in es)) changes ≡ false → AllAlike schema (rows_from schema T es) T changes)
+        → AllAlike schema (rows_from schema T es) T (x ∷ changes)
     go true y z more = absurd cc
     go false y z more = (key_stays schema T es x y, more z)

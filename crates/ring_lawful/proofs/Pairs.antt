@@ -19,14 +19,16 @@ abbrev pub Placed : List Entry → Type 0
 Placed log = (k : ℕ) (e : Entry) → entry_at log k ≡ Some e → e.opid.position ≡ k
 
 -- ---- filters by opid
-pub filter_on : (g : Opid → Bool) (xs : List Entry) → ((e : Entry) → Contains xs e → g e.opid ≡ true) → filter (λ (p : Pair). g p.opid) (pairs_in xs) ≡ pairs_in xs
+pub filter_on : (g : Opid → Bool) (xs : List Entry) → ((e : Entry) → Contains xs e → g e.opid ≡ true)
+    → filter (λ (p : Pair). g p.opid) (pairs_in xs) ≡ pairs_in xs
 filter_on g [] each = refl
 filter_on g (e ∷ xs) each = go (filter_on g xs (λ x c. each x (in_cons e xs x c))) e.payload refl
   where
     here : g e.opid ≡ true
     here = each e (zero, omega arith, refl)
 
-    go : filter (λ (p : Pair). g p.opid) (pairs_in xs) ≡ pairs_in xs → (b : Payload) → e.payload ≡ b → filter (λ (p : Pair). g p.opid) (pairs_in (e ∷ xs)) ≡ pairs_in (e ∷ xs)
+    go : filter (λ (p : Pair). g p.opid) (pairs_in xs) ≡ pairs_in xs → (b : Payload) → e.payload ≡ b
+        → filter (λ (p : Pair). g p.opid) (pairs_in (e ∷ xs)) ≡ pairs_in (e ∷ xs)
     go rest payload.NoOp is = rw is rest
     go rest payload.Rotate is = rw is rest
     go rest (payload.Txn t) is = rw (is, here) (ap (λ (ps : List Pair). (record { opid = e.opid; txn = t }) ∷ ps) rest)
@@ -46,7 +48,8 @@ filter_off g (e ∷ xs) each = go (filter_off g xs (λ x c. each x (in_cons e xs
 pub pairs_join : (xs ys : List Entry) → pairs_in (xs ++ ys) ≡ pairs_in xs ++ pairs_in ys
 pairs_join xs ys = filter_map-append pair_of xs ys
 
-pub filter_first : (g : Opid → Bool) (xs ys : List Entry) → ((e : Entry) → Contains xs e → g e.opid ≡ true) → ((e : Entry) → Contains ys e → g e.opid ≡ false) → filter (λ (p : Pair). g p.opid) (pairs_in (xs ++ ys)) ≡ pairs_in xs
+pub filter_first : (g : Opid → Bool) (xs ys : List Entry) → ((e : Entry) → Contains xs e → g e.opid ≡ true)
+    → ((e : Entry) → Contains ys e → g e.opid ≡ false) → filter (λ (p : Pair). g p.opid) (pairs_in (xs ++ ys)) ≡ pairs_in xs
 filter_first g xs ys on off =
     ap (filter (λ (p : Pair). g p.opid)) (pairs_join xs ys)
     ∙ (filter-append (λ (p : Pair). g p.opid) (pairs_in xs) (pairs_in ys)
@@ -61,7 +64,8 @@ drop_at [] k e is = absurd cc
 drop_at (x ∷ xs) zero e is = ap (λ (w : Entry). w ∷ xs) (let z : x ≡ e = cc in z)
 drop_at (x ∷ xs) (suc k) e is = drop_at xs k e is
 
-pub next_between : (log : List Entry) (a k : ℕ) (e : Entry) → a < k → entry_at log (suc a) ≡ Some e → entries_between log a k ≡ e ∷ entries_between log (suc a) k
+pub next_between : (log : List Entry) (a k : ℕ) (e : Entry) → a < k → entry_at log (suc a) ≡ Some e
+    → entries_between log a k ≡ e ∷ entries_between log (suc a) k
 next_between log a k e lt is = let z : k - a ≡ suc (k - suc a) = omega (arith, lt) in rw z (ap (take (suc (k - suc a))) (drop_at log a e is))
 
 -- a place of the first n after a is a place of the log
@@ -82,7 +86,8 @@ contains_place (x ∷ xs) e (zero, lt, is) = (0, ap (λ (w : Entry). Some w) is)
 contains_place (x ∷ xs) e (suc k, lt, is) = let y = contains_place xs e (k, omega arith, is) in (suc y.0, y.1)
 
 -- an entry of a stretch stands in the log, between its ends
-pub in_between : (log : List Entry) (a k : ℕ) (e : Entry) → Placed log → Contains (entries_between log a k) e → (entry_at log e.opid.position ≡ Some e) × (a < e.opid.position) × (e.opid.position ≤ k)
+pub in_between : (log : List Entry) (a k : ℕ) (e : Entry) → Placed log → Contains (entries_between log a k) e
+    → (entry_at log e.opid.position ≡ Some e) × (a < e.opid.position) × (e.opid.position ≤ k)
 in_between log a k e placed c =
     let y = contains_place (entries_between log a k) e c in
     let t = take_place (drop a log) (k - a) y.0 e y.1 in
@@ -145,7 +150,8 @@ pub prepared_in : (xs : List Entry) (e : Entry) (p : Pair) → Contains xs e →
 prepared_in [] e p c is = absurd (none_contained e c)
 prepared_in (x ∷ xs) e p c is = go x.payload refl (cons_cases x xs e c) (λ d. prepared_in xs e p d is)
   where
-    go : (b : Payload) → x.payload ≡ b → (x ≡ e) ⊎ Contains xs e → (Contains xs e → is_prepared (pairs_in xs) e.opid ≡ true) → is_prepared (pairs_in (x ∷ xs)) e.opid ≡ true
+    go : (b : Payload) → x.payload ≡ b → (x ≡ e) ⊎ Contains xs e → (Contains xs e → is_prepared (pairs_in xs) e.opid ≡ true)
+        → is_prepared (pairs_in (x ∷ xs)) e.opid ≡ true
     go payload.NoOp y (inl here) rest = absurd (let z : None ≡ Some p = (let w : pair_of x ≡ None = rw y refl in sym w) ∙ (ap pair_of here ∙ is) in cc)
     go payload.NoOp y (inr there) rest = rw y (rest there)
     go payload.Rotate y (inl here) rest = absurd (let z : None ≡ Some p = (let w : pair_of x ≡ None = rw y refl in sym w) ∙ (ap pair_of here ∙ is) in cc)
@@ -217,7 +223,8 @@ between_more log es a k in_a in_k = ap (take (k - a)) (drop-append-le a log es i
 pub between_all : (log : List Entry) (a : ℕ) → entries_between log a (length log) ≡ drop a log
 between_all log a = take_all (length log - a) (drop a log) (let y = length_drop a log in omega (arith, y))
 
-pub between_push : (log : List Entry) (x : Entry) (a : ℕ) → a ≤ length log → entries_between (log ++ x ∷ []) a (length (log ++ x ∷ [])) ≡ entries_between log a (length log) ++ x ∷ []
+pub between_push : (log : List Entry) (x : Entry) (a : ℕ) → a ≤ length log
+    → entries_between (log ++ x ∷ []) a (length (log ++ x ∷ [])) ≡ entries_between log a (length log) ++ x ∷ []
 between_push log x a in_a = between_all (log ++ x ∷ []) a ∙ (drop-append-le a log (x ∷ []) in_a ∙ ap (λ (ys : List Entry). ys ++ x ∷ []) (sym (between_all log a)))
 
 pub placed_push : (log : List Entry) (x : Entry) → Placed log → x.opid.position ≡ suc (length log) → Placed (log ++ x ∷ [])
@@ -233,8 +240,10 @@ take_short (suc n) [] = omega arith
 take_short (suc n) (x ∷ xs) = let y = take_short n xs in omega (arith, y)
 
 -- what a filter that passes just the places up to m keeps of a stretch's pairs
-pub filter_up_to : (log : List Entry) (g : Opid → Bool) (a m k : ℕ) → a ≤ m → Placed log → ((e : Entry) → entry_at log e.opid.position ≡ Some e → e.opid.position ≤ m → g e.opid ≡ true)
-    → ((e : Entry) → m < e.opid.position → g e.opid ≡ false) → (j : ℕ) × (j ≤ m) × (j ≤ k) × (filter (λ (p : Pair). g p.opid) (pairs_in (entries_between log a k)) ≡ pairs_in (entries_between log a j))
+pub filter_up_to : (log : List Entry) (g : Opid → Bool) (a m k : ℕ) → a ≤ m → Placed log
+    → ((e : Entry) → entry_at log e.opid.position ≡ Some e → e.opid.position ≤ m → g e.opid ≡ true)
+    → ((e : Entry) → m < e.opid.position → g e.opid ≡ false)
+    → (j : ℕ) × (j ≤ m) × (j ≤ k) × (filter (λ (p : Pair). g p.opid) (pairs_in (entries_between log a k)) ≡ pairs_in (entries_between log a j))
 filter_up_to log g a m k low placed on off = elim (cases_lt m k) [
   | inl lt ↦ (
     m,

@@ -75,7 +75,9 @@ rises_from (v ∷ w ∷ ps) h =
     let here : nat_lt v.opid.position w.opid.position ≡ true = grind (arith, nat_tests, lt) in
     (rw here (all_weaker (λ (u : Pending). nat_lt w.opid.position u.opid.position) (λ (u : Pending). nat_lt v.opid.position u.opid.position) ps (λ u is. grind (arith, nat_tests, is, lt)) rest.0), rest)
 
-entries_fit : (ring : Layout) (t p : ℕ) (xs : List Entry) → Chain t p xs → p + length xs < TERM_END → list_all (λ (e : Entry). nat_le (group_bytes ring.schema e.payload) group_limit) xs ≡ true → payloads_fit ring.schema xs ≡ true → list_all (entry_fits ring) xs ≡ true
+entries_fit : (ring : Layout) (t p : ℕ) (xs : List Entry) → Chain t p xs → p + length xs < TERM_END
+    → list_all (λ (e : Entry). nat_le (group_bytes ring.schema e.payload) group_limit) xs ≡ true → payloads_fit ring.schema xs ≡ true
+    → list_all (entry_fits ring) xs ≡ true
 entries_fit ring t p [] c short groups fit = refl
 entries_fit ring t p (x ∷ xs) c short groups fit =
     let g = both_true (nat_le (group_bytes ring.schema x.payload) group_limit) (list_all (λ (e : Entry). nat_le (group_bytes ring.schema e.payload) group_limit) xs) groups in
@@ -152,7 +154,8 @@ soft_from ring me d s x = record {
     voter true is role = is
     voter false is role = absurd (let z : Leader ≡ Follower = sym role ∙ x.learner_follows is in cc)
 
-clean_from : (ring : Layout) (me : ℕ) (d : Durable) (s : Soft) → IsLawful ring me d s → (k : ℕ) → k ≤ length d.log → d.prepared ≡ pairs_in (entries_between d.log d.applied k) → Clean d k
+clean_from : (ring : Layout) (me : ℕ) (d : Durable) (s : Soft) → IsLawful ring me d s → (k : ℕ) → k ≤ length d.log
+    → d.prepared ≡ pairs_in (entries_between d.log d.applied k) → Clean d k
 clean_from ring me d s x k inside is = record { placed = x.sound.log.placed; applied = x.sound.applied_inside; inside = inside; prepared = is }
 
 pub runs_from : (ring : Layout) (me : ℕ) (d : Durable) (s : Soft) → IsLawful ring me d s → runs_engine ring me ≡ true → EngineRuns d s
@@ -167,7 +170,8 @@ runs_from ring me d s x runs =
     }
 
 -- ---- the input
-pub chain_from : (term : ℕ) (before : Opid) (es : List Entry) → opids_follow term before (opids_of es) ≡ true → Chain before.term before.position es × (list_all (λ (e : Entry). nat_le e.opid.term term) es ≡ true)
+pub chain_from : (term : ℕ) (before : Opid) (es : List Entry) → opids_follow term before (opids_of es) ≡ true
+    → Chain before.term before.position es × (list_all (λ (e : Entry). nat_le e.opid.term term) es ≡ true)
 chain_from term before [] is = (tt, refl)
 chain_from term before (e ∷ es) is =
     let a = both_true (e.opid.position == suc before.position && nat_le before.term e.opid.term && nat_le e.opid.term term) (opids_follow term e.opid (opids_of es)) is in
@@ -179,7 +183,8 @@ chain_from term before (e ∷ es) is =
     let here = b.1 in
     ((at, low, subst (λ (n : ℕ). Chain e.opid.term n es) at rest.0), rw here rest.1)
 
-sent_fit : (ring : Layout) (es : List Entry) → list_all (λ (e : Entry). nat_le (group_bytes ring.schema e.payload) group_limit) es ≡ true → list_all opid_fits (opids_of es) ≡ true → payloads_fit ring.schema es ≡ true → list_all (entry_fits ring) es ≡ true
+sent_fit : (ring : Layout) (es : List Entry) → list_all (λ (e : Entry). nat_le (group_bytes ring.schema e.payload) group_limit) es ≡ true
+    → list_all opid_fits (opids_of es) ≡ true → payloads_fit ring.schema es ≡ true → list_all (entry_fits ring) es ≡ true
 sent_fit ring [] groups opids fit = refl
 sent_fit ring (x ∷ xs) groups opids fit =
     let g = both_true (nat_le (group_bytes ring.schema x.payload) group_limit) (list_all (λ (e : Entry). nat_le (group_bytes ring.schema e.payload) group_limit) xs) groups in

@@ -56,11 +56,13 @@ same_is a b is (e ∷ log) =
     let one : same_opid e.opid a ≡ same_opid e.opid b = grind (arith, nat_tests, is) in
     let rest = same_is a b is log in rw (one, rest) refl
 
-pub stray_not : (log : List Entry) (o : Opid) (ps : List Pair) → has_opid log o ≡ true → list_any (same_opid o) (map (λ (p : Pair). p.opid) (filter (λ (p : Pair). not (has_opid log p.opid)) ps)) ≡ false
+pub stray_not : (log : List Entry) (o : Opid) (ps : List Pair) → has_opid log o ≡ true
+    → list_any (same_opid o) (map (λ (p : Pair). p.opid) (filter (λ (p : Pair). not (has_opid log p.opid)) ps)) ≡ false
 stray_not log o [] has = refl
 stray_not log o (p ∷ ps) has = go (has_opid log p.opid) refl (same_opid o p.opid) refl (stray_not log o ps has)
   where
-    go : (a : Bool) → has_opid log p.opid ≡ a → (b : Bool) → same_opid o p.opid ≡ b → list_any (same_opid o) (map (λ (p : Pair). p.opid) (filter (λ (p : Pair). not (has_opid log p.opid)) ps)) ≡ false
+    go : (a : Bool) → has_opid log p.opid ≡ a → (b : Bool) → same_opid o p.opid ≡ b
+        → list_any (same_opid o) (map (λ (p : Pair). p.opid) (filter (λ (p : Pair). not (has_opid log p.opid)) ps)) ≡ false
         → list_any (same_opid o) (map (λ (p : Pair). p.opid) (filter (λ (p : Pair). not (has_opid log p.opid)) (p ∷ ps))) ≡ false
     go true x b y rest = rw x rest
     go false x false y rest = rw (x, y) rest
@@ -81,7 +83,8 @@ dropped_pairs d opids is =
     filter_within (λ (p : Pair). has_opid d.log p.opid) (λ (p : Pair). not (list_any (same_opid p.opid) opids)) d.prepared
     (λ p has. ap (λ (os : List Opid). not (list_any (same_opid p.opid) os)) (sym is) ∙ ap not (stray_not d.log p.opid d.prepared has))
 
-pub dropped_engine : (ring : Layout) (id : ℕ) (d : Durable) (opids : List Opid) → stray_opids d ≡ opids → Engine ring id d → Engine ring id (done d (action.DropPairs opids))
+pub dropped_engine : (ring : Layout) (id : ℕ) (d : Durable) (opids : List Opid) → stray_opids d ≡ opids → Engine ring id d
+    → Engine ring id (done d (action.DropPairs opids))
 dropped_engine ring id d opids is x = record {
   engine = λ runs. (let z = x.engine runs in (z.0, z.1, z.2, dropped_pairs d opids is ∙ z.3));
   tailer = λ runs. (let z = x.tailer runs in (z.0, ap (filter (λ (p : Pair). not (list_any (same_opid p.opid) opids))) z.1));

@@ -34,7 +34,8 @@ use Rattle.ring_model.proofs.Restarts.{partly}
 
 -- ---- recovery
 -- with these prepared pairs alone made other, sound where the pairs are
-repaired : (ring : Layout) (me : ℕ) (d : Durable) (ps : List Pair) → KeepsPairs ring me (record d { prepared = ps }) → IsSound ring me d → IsSound ring me (record d { prepared = ps })
+repaired : (ring : Layout) (me : ℕ) (d : Durable) (ps : List Pair) → KeepsPairs ring me (record d { prepared = ps }) → IsSound ring me d
+    → IsSound ring me (record d { prepared = ps })
 repaired ring me d ps y x = record {
   log = x.log;
   groups_fit = x.groups_fit;
@@ -50,7 +51,8 @@ repaired ring me d ps y x = record {
 
 pub partly_sound : (ring : Layout) (me : ℕ) (d : Durable) (n : ℕ) → IsSound ring me d → IsSound ring me (all_done d (take n (restart_actions d)))
 partly_sound ring me d n x =
-    partly (IsSound ring me) d x (λ opids is. repaired ring me d _ (pairs_of ring me (done d (action.DropPairs opids)) (dropped_engine ring me d opids is (engine_from ring me d x))) x) n
+    partly (IsSound ring me) d x
+    (λ opids is. repaired ring me d _ (pairs_of ring me (done d (action.DropPairs opids)) (dropped_engine ring me d opids is (engine_from ring me d x))) x) n
 
 pub recovery_lawful : (ring : Layout) (me : ℕ) (d : Durable) → IsSound ring me d → IsLawful ring me (recover d) (fresh_soft d)
 recovery_lawful ring me d x =

@@ -46,7 +46,8 @@ key_left : (rs : Rows) (k key : Value) → same_value k key ≡ false → has_ke
 key_left [] k key other = refl
 key_left (row ∷ rs) k key other = go (same_value (key_of row) k) refl (key_left rs k key other)
   where
-    go : (b : Bool) → same_value (key_of row) k ≡ b → has_key (without_key rs k) key ≡ has_key rs key → has_key (without_key (row ∷ rs) k) key ≡ has_key (row ∷ rs) key
+    go : (b : Bool) → same_value (key_of row) k ≡ b → has_key (without_key rs k) key ≡ has_key rs key
+        → has_key (without_key (row ∷ rs) k) key ≡ has_key (row ∷ rs) key
     go true is rest =
         let z : key_of row ≡ k = same_true (key_of row) k is in
         let y : same_value (key_of row) key ≡ false = subst (λ (v : Value). same_value v key ≡ false) (sym z) other in

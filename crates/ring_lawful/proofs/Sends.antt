@@ -40,10 +40,17 @@ well_each schema (y ∷ ms) m x (suc k, lt, is) = well_each schema ms m x.1 (k, 
 
 -- ---- opids
 pub opid_is : (o : Opid) → o.term < TERM_END → o.position < TERM_END → opid_fits o ≡ true
-opid_is o a b = let x : nat_lt o.term TERM_END ≡ true = grind (arith, nat_tests, a) in let y : nat_lt o.position TERM_END ≡ true = grind (arith, nat_tests, b) in rw (x, y) refl
+opid_is o a b =
+    let x : nat_lt o.term TERM_END ≡ true = grind (arith, nat_tests, a) in
+    let y : nat_lt o.position TERM_END ≡ true = grind (arith, nat_tests, b) in
+    rw (x, y) refl
 
 pub opid_parts : (o : Opid) → opid_fits o ≡ true → (o.term < TERM_END) × (o.position < TERM_END)
-opid_parts o is = let z = both_true (nat_lt o.term TERM_END) (nat_lt o.position TERM_END) is in let a = z.0 in let b = z.1 in (grind (arith, nat_tests, a), grind (arith, nat_tests, b))
+opid_parts o is =
+    let z = both_true (nat_lt o.term TERM_END) (nat_lt o.position TERM_END) is in
+    let a = z.0 in
+    let b = z.1 in
+    (grind (arith, nat_tests, a), grind (arith, nat_tests, b))
 
 pub term_low : (log : List Entry) (top k : ℕ) → list_all (λ (e : Entry). nat_le e.opid.term top) log ≡ true → term_at log k ≤ top
 term_low log top zero all = omega arith
@@ -61,6 +68,7 @@ pub record Tells (ring : Layout) (d : Durable) (s : Soft) : Type 0 where
 pub last_fits : (ring : Layout) (d : Durable) (s : Soft) → Tells ring d s → opid_fits (last d.log) ≡ true
 last_fits ring d s x = let t = x.sized.term in let a = term_low d.log d.term (length d.log) x.ordered.low in opid_is (last d.log) (omega (arith, t, a)) x.short
 
-pub advance_well : (schema : Schema) (ring : Layout) (me : ℕ) (d : Durable) (s : Soft) (first : List Action) (says : List Say) → AllWell schema (advance ring me d s first says).plan.messages
+pub advance_well : (schema : Schema) (ring : Layout) (me : ℕ) (d : Durable) (s : Soft) (first : List Action) (says : List Say)
+    → AllWell schema (advance ring me d s first says).plan.messages
 unfolding advance
 advance_well schema ring me d s first says = tt

@@ -39,7 +39,8 @@ chain_drop zero t p xs le c = let z : p + 0 ≡ p = omega arith in subst (λ (m 
 chain_drop (suc n) t p [] le c = absurd (omega (arith, le))
 chain_drop (suc n) t p (x ∷ xs) le c = let z : suc p + n ≡ p + suc n = omega arith in subst (λ (m : ℕ). Chain (end x.opid.term (take n xs)) m (drop n xs)) z (chain_drop n x.opid.term (suc p) xs (omega (arith, le)) c.2)
 
-follow_of : (top : ℕ) (before : Opid) (es : List Entry) → Chain before.term before.position es → list_all (λ (e : Entry). nat_le e.opid.term top) es ≡ true → opids_follow top before (opids_of es) ≡ true
+follow_of : (top : ℕ) (before : Opid) (es : List Entry) → Chain before.term before.position es → list_all (λ (e : Entry). nat_le e.opid.term top) es ≡ true
+    → opids_follow top before (opids_of es) ≡ true
 follow_of top before [] c all = refl
 follow_of top before (e ∷ es) c all =
     let z = both_true (nat_le e.opid.term top) (list_all (λ (e : Entry). nat_le e.opid.term top) es) all in
@@ -50,7 +51,8 @@ follow_of top before (e ∷ es) c all =
     let w = z.0 in
     rw (x, y, w) (follow_of top e.opid es (subst (λ (m : ℕ). Chain e.opid.term m es) (sym at) c.2) z.1)
 
-opids_fit : (ring : Layout) (top : ℕ) (es : List Entry) → top < TERM_END → list_all (λ (e : Entry). nat_le e.opid.term top) es ≡ true → list_all (entry_fits ring) es ≡ true → list_all opid_fits (opids_of es) ≡ true
+opids_fit : (ring : Layout) (top : ℕ) (es : List Entry) → top < TERM_END → list_all (λ (e : Entry). nat_le e.opid.term top) es ≡ true
+    → list_all (entry_fits ring) es ≡ true → list_all opid_fits (opids_of es) ≡ true
 opids_fit ring top [] lt all fit = refl
 opids_fit ring top (e ∷ es) lt all fit =
     let z = both_true (nat_le e.opid.term top) (list_all (λ (e : Entry). nat_le e.opid.term top) es) all in
@@ -60,7 +62,8 @@ opids_fit ring top (e ∷ es) lt all fit =
     let here = opid_is e.opid (grind (arith, nat_tests, w, lt)) (grind (arith, nat_tests, h)) in
     rw here (opids_fit ring top es lt z.1 f.1)
 
-pub groups_of : (ring : Layout) (es : List Entry) → list_all (entry_fits ring) es ≡ true → list_all (λ (e : Entry). nat_le (group_bytes ring.schema e.payload) group_limit) es ≡ true
+pub groups_of : (ring : Layout) (es : List Entry) → list_all (entry_fits ring) es ≡ true
+    → list_all (λ (e : Entry). nat_le (group_bytes ring.schema e.payload) group_limit) es ≡ true
 groups_of ring es fit = all_weaker (entry_fits ring) (λ (e : Entry). nat_le (group_bytes ring.schema e.payload) group_limit) es
     (λ e is. (fit_parts ring e is).0) fit
 
@@ -73,14 +76,16 @@ batch_short schema zero bytes es = omega arith
 batch_short schema (suc count) bytes [] = omega arith
 batch_short schema (suc count) bytes (e ∷ es) = go (nat_le (group_size schema e.payload) bytes) refl (batch_short schema count (bytes - group_size schema e.payload) es)
   where
-    go : (b : Bool) → nat_le (group_size schema e.payload) bytes ≡ b → batch_length schema count (bytes - group_size schema e.payload) es ≤ count → batch_length schema (suc count) bytes (e ∷ es) ≤ suc count
+    go : (b : Bool) → nat_le (group_size schema e.payload) bytes ≡ b → batch_length schema count (bytes - group_size schema e.payload) es ≤ count
+        → batch_length schema (suc count) bytes (e ∷ es) ≤ suc count
     go true is rest = rw is (omega (arith, rest))
     go false is rest = rw is (omega arith)
 
 size_is : (n : ℕ) → nat_le n group_limit ≡ true → min n (2 ^ 64 - 1) ≡ n
 size_is n is = grind (arith, nat_tests, is)
 
-batch_bytes : (schema : Schema) (count bytes : ℕ) (es : List Entry) → list_all (λ (e : Entry). nat_le (group_bytes schema e.payload) group_limit) es ≡ true → all_bytes schema (take (batch_length schema count bytes es) es) ≤ bytes
+batch_bytes : (schema : Schema) (count bytes : ℕ) (es : List Entry) → list_all (λ (e : Entry). nat_le (group_bytes schema e.payload) group_limit) es ≡ true
+    → all_bytes schema (take (batch_length schema count bytes es) es) ≤ bytes
 batch_bytes schema zero bytes es fit = omega arith
 batch_bytes schema (suc count) bytes [] fit = omega arith
 batch_bytes schema (suc count) bytes (e ∷ es) fit = go (nat_le (group_size schema e.payload) bytes) refl (batch_bytes schema count (bytes - group_size schema e.payload) es f.1)
@@ -91,13 +96,15 @@ batch_bytes schema (suc count) bytes (e ∷ es) fit = go (nat_le (group_size sch
     low : (n m b rest : ℕ) → n ≡ m → nat_le n b ≡ true → rest ≤ b - n → m + rest ≤ b
     low n m b rest same le x = grind (arith, nat_tests, same, le, x)
 
-    go : (b : Bool) → nat_le (group_size schema e.payload) bytes ≡ b → all_bytes schema (take (batch_length schema count (bytes - group_size schema e.payload) es) es) ≤ bytes - group_size schema e.payload
+    go : (b : Bool) → nat_le (group_size schema e.payload) bytes ≡ b
+        → all_bytes schema (take (batch_length schema count (bytes - group_size schema e.payload) es) es) ≤ bytes - group_size schema e.payload
         → all_bytes schema (take (batch_length schema (suc count) bytes (e ∷ es)) (e ∷ es)) ≤ bytes
     go true is rest = rw is (low (group_size schema e.payload) (group_bytes schema e.payload) bytes _ (size_is (group_bytes schema e.payload) f.0) is rest)
     go false is rest = rw is (omega arith)
 
 module _ (ring : Layout) (me : ℕ) (d : Durable) (s : Soft) (x : Tells ring d s) where
-  batch_well : (next : ℕ) → next ≤ length d.log + 1 → EntriesFit ring.schema (record { term = d.term; leader = me; prev = opid_before d.log next; commit = s.commit; entries = batch_of ring.schema (drop (next - 1) d.log) })
+  batch_well : (next : ℕ) → next ≤ length d.log + 1
+      → EntriesFit ring.schema (record { term = d.term; leader = me; prev = opid_before d.log next; commit = s.commit; entries = batch_of ring.schema (drop (next - 1) d.log) })
       × (all_bytes ring.schema (batch_of ring.schema (drop (next - 1) d.log)) ≤ group_limit)
   batch_well next high =
       let k = next - 1 in
@@ -148,7 +155,8 @@ module _ (ring : Layout) (me : ℕ) (d : Durable) (s : Soft) (x : Tells ring d s
   unfolding beat
   beat_well near = go (is_leader s.role) refl
     where
-      go : (b : Bool) → is_leader s.role ≡ b → AllWell ring.schema (if b then stepped [] (map (beat_to ring me d s) s.peers) [] (record s { peers = map quieter s.peers }) else idle s).plan.messages
+      go : (b : Bool) → is_leader s.role ≡ b
+          → AllWell ring.schema (if b then stepped [] (map (beat_to ring me d s) s.peers) [] (record s { peers = map quieter s.peers }) else idle s).plan.messages
       go true is = beats_well s.peers (near is)
       go false is = tt
 
@@ -162,7 +170,8 @@ chain_short t p (e ∷ es) c lt fit =
     let rest = chain_short e.opid.term (suc p) es c.2 (omega (arith, o, at)) z.1 in
     omega (arith, rest)
 
-module _ (ring : Layout) (me : ℕ) (d : Durable) (s : Soft) (sent : Append) (term : d.term < TERM_END) (short : length d.log < TERM_END) (fits : sent.term < TERM_END) (prev : sent.prev.position < TERM_END) (more : sent.prev.position + length sent.entries < TERM_END) where
+module _ (ring : Layout) (me : ℕ) (d : Durable) (s : Soft) (sent : Append) (term : d.term < TERM_END) (short : length d.log < TERM_END)
+    (fits : sent.term < TERM_END) (prev : sent.prev.position < TERM_END) (more : sent.prev.position + length sent.entries < TERM_END) where
   match_well : (o : Soft) (first : List Action) (says : List Say) → AllWell ring.schema (match_append ring me d o first says sent).plan.messages
   match_well o first says = go (nat_lt (length d.log) sent.prev.position) (term_at d.log sent.prev.position == sent.prev.term)
     where

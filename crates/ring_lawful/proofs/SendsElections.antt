@@ -31,16 +31,19 @@ use Rattle.ring_lawful.proofs.Sends.{AllWell, Tells, Well, advance_well, last_fi
 use Rattle.ring_lawful.proofs.SizedElections.{may_stand}
 
 -- ---- elections
-requests_well : (schema : Schema) (me term : ℕ) (asked : Opid) (members : List Member) → term < TERM_END → opid_fits asked ≡ true → AllWell schema (requests me term asked members)
+requests_well : (schema : Schema) (me term : ℕ) (asked : Opid) (members : List Member) → term < TERM_END → opid_fits asked ≡ true
+    → AllWell schema (requests me term asked members)
 requests_well schema me term asked [] fits last = tt
 requests_well schema me term asked (m ∷ members) fits last = go (m.id == me) refl (is_voter m.kind) refl (requests_well schema me term asked members fits last)
   where
-    go : (a : Bool) → (m.id == me) ≡ a → (b : Bool) → is_voter m.kind ≡ b → AllWell schema (requests me term asked members) → AllWell schema (requests me term asked (m ∷ members))
+    go : (a : Bool) → (m.id == me) ≡ a → (b : Bool) → is_voter m.kind ≡ b → AllWell schema (requests me term asked members)
+        → AllWell schema (requests me term asked (m ∷ members))
     go true x b y rest = rw x rest
     go false x true y rest = rw (x, y) (((fits, last), tt), rest)
     go false x false y rest = rw (x, y) rest
 
-ask_well : (ring : Layout) (me : ℕ) (d : Durable) (s : Soft) (first : List Action) (says : List Say) (grants : List Grant) (asks : List Message) → AllWell ring.schema asks → AllWell ring.schema (lead_or_ask ring me d s first says grants asks).plan.messages
+ask_well : (ring : Layout) (me : ℕ) (d : Durable) (s : Soft) (first : List Action) (says : List Say) (grants : List Grant) (asks : List Message)
+    → AllWell ring.schema asks → AllWell ring.schema (lead_or_ask ring me d s first says grants asks).plan.messages
 unfolding lead_or_ask
 ask_well ring me d s first says grants asks well = go (has_won ring me (all_done d first) grants)
   where
@@ -59,7 +62,8 @@ elect_well ring me d s x = go (may_elect ring me d s) refl
     go true is = ask_well ring me d (demoted s) _ (unknowns s) _ (requests me (suc d.term) (last d.log) ring.members) (requests_well ring.schema me (suc d.term) (last d.log) ring.members (room is) (last_fits ring d s x))
     go false is = tt
 
-pub reply_well : (ring : Layout) (me from : ℕ) (reply : VoteReply) (d : Durable) (s : Soft) → AllWell ring.schema (on_reply ring me d s from reply).plan.messages
+pub reply_well : (ring : Layout) (me from : ℕ) (reply : VoteReply) (d : Durable) (s : Soft)
+    → AllWell ring.schema (on_reply ring me d s from reply).plan.messages
 unfolding on_reply
 reply_well ring me from reply d s = go s.role
   where
@@ -85,7 +89,8 @@ filter_short q (v ∷ vs) = go (q v) refl (filter_short q vs)
     go true is rest = rw is (omega (arith, rest))
     go false is rest = rw is (omega (arith, rest))
 
-grant_well : (ring : Layout) (me from : ℕ) (asked : RequestVote) (e : Durable) → Sized ring e → asked.term < TERM_END → IsWellFormed ring.schema (grant_vote me from asked e)
+grant_well : (ring : Layout) (me from : ℕ) (asked : RequestVote) (e : Durable) → Sized ring e → asked.term < TERM_END
+    → IsWellFormed ring.schema (grant_vote me from asked e)
 grant_well ring me from asked e x fits = (
   record {
     term = fits;
@@ -97,7 +102,8 @@ grant_well ring me from asked e x fits = (
   tt,
 )
 
-answer_well : (ring : Layout) (me : ℕ) (d : Durable) (o : Soft) (first : List Action) (says : List Say) (from : ℕ) (asked : RequestVote) → Sized ring (all_done d (answer_request ring me d o first says from asked).plan.actions) → asked.term < TERM_END
+answer_well : (ring : Layout) (me : ℕ) (d : Durable) (o : Soft) (first : List Action) (says : List Say) (from : ℕ) (asked : RequestVote)
+    → Sized ring (all_done d (answer_request ring me d o first says from asked).plan.actions) → asked.term < TERM_END
     → AllWell ring.schema (answer_request ring me d o first says from asked).plan.messages
 answer_well ring me d o first says from asked x fits = go (vote_in d.votes asked.term) x
   where
@@ -116,11 +122,13 @@ answer_well ring me d o first says from asked x fits = go (vote_in d.votes asked
     fresh true false x = refusal
     fresh false c x = refusal
 
-    go : (v : Option Vote) → Sized ring (all_done d (answer_by ring me d o first says from asked v).plan.actions) → AllWell ring.schema (answer_by ring me d o first says from asked v).plan.messages
+    go : (v : Option Vote) → Sized ring (all_done d (answer_by ring me d o first says from asked v).plan.actions)
+        → AllWell ring.schema (answer_by ring me d o first says from asked v).plan.messages
     go (Some w) x = kept (w.candidate == from) x
     go None x = fresh (at_least asked.last (last d.log)) (has_room (floor_of d o) d.votes) x
 
-pub request_well : (ring : Layout) (me from : ℕ) (asked : RequestVote) (d : Durable) (s : Soft) → d.term < TERM_END → Sized ring (all_done d (on_request ring me d s from asked).plan.actions) → asked.term < TERM_END
+pub request_well : (ring : Layout) (me from : ℕ) (asked : RequestVote) (d : Durable) (s : Soft) → d.term < TERM_END
+    → Sized ring (all_done d (on_request ring me d s from asked).plan.actions) → asked.term < TERM_END
     → AllWell ring.schema (on_request ring me d s from asked).plan.messages
 unfolding on_request
 request_well ring me from asked d s low x fits = voter (votes ring me) x
@@ -132,6 +140,7 @@ request_well ring me from asked d s low x fits = voter (votes ring me) x
     go false true x = answer_well ring me d (demoted s) (action.SetTerm asked.term ∷ []) (unknowns s) from asked x fits
     go false false x = answer_well ring me d s [] [] from asked x fits
 
-    voter : (b : Bool) → Sized ring (all_done d (if b then voter_answers ring me d s from asked else idle s).plan.actions) → AllWell ring.schema (if b then voter_answers ring me d s from asked else idle s).plan.messages
+    voter : (b : Bool) → Sized ring (all_done d (if b then voter_answers ring me d s from asked else idle s).plan.actions)
+        → AllWell ring.schema (if b then voter_answers ring me d s from asked else idle s).plan.messages
     voter true x = go (nat_lt asked.term d.term) (nat_lt d.term asked.term) x
     voter false x = tt

@@ -53,7 +53,8 @@ hand_well schema me d peers target term = go (has_matched peers target (length d
     go true = ((term, tt), tt)
     go false = tt
 
-after_well : (schema : Schema) (me : ℕ) (d : Durable) (peers : List Peer) (from : ℕ) (t : Transfer) → d.term < TERM_END → AllWell schema (after_ok me d peers from t)
+after_well : (schema : Schema) (me : ℕ) (d : Durable) (peers : List Peer) (from : ℕ) (t : Transfer) → d.term < TERM_END
+    → AllWell schema (after_ok me d peers from t)
 after_well schema me d peers from transfer.Off term = tt
 after_well schema me d peers from (transfer.Mock target round client) term = tt
 after_well schema me d peers from (transfer.Handing target client) term = go (target == from)
@@ -62,7 +63,8 @@ after_well schema me d peers from (transfer.Handing target client) term = go (ta
     go true = hand_well schema me d peers target term
     go false = tt
 
-pub answered_well : (ring : Layout) (me from : ℕ) (answer : AppendReply) (d : Durable) (s : Soft) → d.term < TERM_END → AllWell ring.schema (on_answer ring me d s from answer).plan.messages
+pub answered_well : (ring : Layout) (me from : ℕ) (answer : AppendReply) (d : Durable) (s : Soft) → d.term < TERM_END
+    → AllWell ring.schema (on_answer ring me d s from answer).plan.messages
 unfolding on_answer
 answered_well ring me from answer d s term = go (counts d s answer && answer.ok)
   where
@@ -70,7 +72,8 @@ answered_well ring me from answer d s term = go (counts d s answer && answer.ok)
     go true = well_join ring.schema (on_ack ring me d s from answer).plan.messages (after_ok me d (on_ack ring me d s from answer).soft.peers from s.transfer) (ack_well ring me from answer d s) (after_well ring.schema me d _ from s.transfer term)
     go false = ack_well ring me from answer d s
 
-pub write_well : (ring : Layout) (me client : ℕ) (changes : List Change) (d : Durable) (s : Soft) → AllWell ring.schema (write ring me d s client changes).plan.messages
+pub write_well : (ring : Layout) (me client : ℕ) (changes : List Change) (d : Durable) (s : Soft)
+    → AllWell ring.schema (write ring me d s client changes).plan.messages
 unfolding write
 write_well ring me client changes d s = go (write_refusal ring me d s changes)
   where
@@ -86,7 +89,8 @@ rotate_well ring me client d s = go (rotate_refusal ring me d s)
     go (Some r) = tt
     go None = advance_well ring.schema ring me d _ _ _
 
-pub transfer_well : (ring : Layout) (me client target : ℕ) (d : Durable) (s : Soft) → Tells ring d s → AllWell ring.schema (ask_transfer ring me d s client target).plan.messages
+pub transfer_well : (ring : Layout) (me client target : ℕ) (d : Durable) (s : Soft) → Tells ring d s
+    → AllWell ring.schema (ask_transfer ring me d s client target).plan.messages
 unfolding ask_transfer
 transfer_well ring me client target d s x = go (transfer_refusal ring me s target)
   where
@@ -102,16 +106,19 @@ cancel_well schema client s = go (is_off s.transfer)
     go true = tt
     go false = tt
 
-mock_requests_well : (schema : Schema) (me term round : ℕ) (asked : Opid) (members : List Member) → term < TERM_END → opid_fits asked ≡ true → AllWell schema (mock_requests me term round asked members)
+mock_requests_well : (schema : Schema) (me term round : ℕ) (asked : Opid) (members : List Member) → term < TERM_END → opid_fits asked ≡ true
+    → AllWell schema (mock_requests me term round asked members)
 mock_requests_well schema me term round asked [] fits last = tt
 mock_requests_well schema me term round asked (m ∷ members) fits last = go (m.id == me) refl (is_voter m.kind) refl (mock_requests_well schema me term round asked members fits last)
   where
-    go : (a : Bool) → (m.id == me) ≡ a → (b : Bool) → is_voter m.kind ≡ b → AllWell schema (mock_requests me term round asked members) → AllWell schema (mock_requests me term round asked (m ∷ members))
+    go : (a : Bool) → (m.id == me) ≡ a → (b : Bool) → is_voter m.kind ≡ b → AllWell schema (mock_requests me term round asked members)
+        → AllWell schema (mock_requests me term round asked (m ∷ members))
     go true x b y rest = rw x rest
     go false x true y rest = rw (x, y) (((fits, last), tt), rest)
     go false x false y rest = rw (x, y) rest
 
-pub start_well : (ring : Layout) (me from : ℕ) (sent : MockStart) (d : Durable) (s : Soft) → sent.term < TERM_END → opid_fits sent.last ≡ true → AllWell ring.schema (on_mock_start ring me d s from sent).plan.messages
+pub start_well : (ring : Layout) (me from : ℕ) (sent : MockStart) (d : Durable) (s : Soft) → sent.term < TERM_END → opid_fits sent.last ≡ true
+    → AllWell ring.schema (on_mock_start ring me d s from sent).plan.messages
 unfolding on_mock_start
 start_well ring me from sent d s fits last = go (sent.term == d.term && votes ring me && is_follower s.role && not (is_old_round s.mock from sent.round))
   where
@@ -123,7 +130,8 @@ start_well ring me from sent d s fits last = go (sent.term == d.term && votes ri
     go true = opens (verdict ring from me (own_passed me d sent) (own_failed me d sent))
     go false = tt
 
-pub asked_well : (ring : Layout) (me from : ℕ) (sent : MockRequest) (d : Durable) (s : Soft) → d.term < TERM_END → AllWell ring.schema (on_mock_request ring me d s from sent).plan.messages
+pub asked_well : (ring : Layout) (me from : ℕ) (sent : MockRequest) (d : Durable) (s : Soft) → d.term < TERM_END
+    → AllWell ring.schema (on_mock_request ring me d s from sent).plan.messages
 unfolding on_mock_request
 asked_well ring me from sent d s term = go (sent.term == d.term && votes ring me)
   where
@@ -136,7 +144,8 @@ deciding_well schema me leader term round (Some x) b fits = tt
 deciding_well schema me leader term round None None fits = tt
 deciding_well schema me leader term round None (Some ok) fits = ((fits, tt), tt)
 
-heard_well : (ring : Layout) (me from : ℕ) (answer : MockReply) (d : Durable) (s : Soft) (m : Mock) → d.term < TERM_END → AllWell ring.schema (mock_hears ring me d s from answer m).plan.messages
+heard_well : (ring : Layout) (me from : ℕ) (answer : MockReply) (d : Durable) (s : Soft) (m : Mock) → d.term < TERM_END
+    → AllWell ring.schema (mock_hears ring me d s from answer m).plan.messages
 heard_well ring me from answer d s mock.Off term = tt
 heard_well ring me from answer d s (mock.On leader round asked passed failed) term = go (answer.term == d.term && answer.round == round)
   where
@@ -150,11 +159,13 @@ heard_well ring me from answer d s (mock.On leader round asked passed failed) te
     go true = count (is_listed passed from || is_listed failed from) answer.ok
     go false = tt
 
-pub mock_reply_well : (ring : Layout) (me from : ℕ) (answer : MockReply) (d : Durable) (s : Soft) → d.term < TERM_END → AllWell ring.schema (on_mock_reply ring me d s from answer).plan.messages
+pub mock_reply_well : (ring : Layout) (me from : ℕ) (answer : MockReply) (d : Durable) (s : Soft) → d.term < TERM_END
+    → AllWell ring.schema (on_mock_reply ring me d s from answer).plan.messages
 unfolding on_mock_reply
 mock_reply_well ring me from answer d s term = heard_well ring me from answer d s s.mock term
 
-transfer_heard : (schema : Schema) (me : ℕ) (d : Durable) (s : Soft) (sent : MockResult) (t : Transfer) → d.term < TERM_END → AllWell schema (transfer_hears me d s sent t).plan.messages
+transfer_heard : (schema : Schema) (me : ℕ) (d : Durable) (s : Soft) (sent : MockResult) (t : Transfer) → d.term < TERM_END
+    → AllWell schema (transfer_hears me d s sent t).plan.messages
 transfer_heard schema me d s sent transfer.Off term = tt
 transfer_heard schema me d s sent (transfer.Handing target client) term = tt
 transfer_heard schema me d s sent (transfer.Mock target round client) term = go (sent.term == d.term && sent.round == round) sent.ok
@@ -164,11 +175,13 @@ transfer_heard schema me d s sent (transfer.Mock target round client) term = go 
     go true false = tt
     go false ok = tt
 
-pub mock_result_well : (schema : Schema) (me : ℕ) (sent : MockResult) (d : Durable) (s : Soft) → d.term < TERM_END → AllWell schema (on_mock_result me d s sent).plan.messages
+pub mock_result_well : (schema : Schema) (me : ℕ) (sent : MockResult) (d : Durable) (s : Soft) → d.term < TERM_END
+    → AllWell schema (on_mock_result me d s sent).plan.messages
 unfolding on_mock_result
 mock_result_well schema me sent d s term = transfer_heard schema me d s sent s.transfer term
 
-pub timeout_well : (ring : Layout) (me : ℕ) (d : Durable) (s : Soft) (term : ℕ) → Tells ring d s → AllWell ring.schema (on_timeout ring me d s term).plan.messages
+pub timeout_well : (ring : Layout) (me : ℕ) (d : Durable) (s : Soft) (term : ℕ) → Tells ring d s
+    → AllWell ring.schema (on_timeout ring me d s term).plan.messages
 unfolding on_timeout
 timeout_well ring me d s term x = go (term == d.term && votes ring me && not (is_leader s.role))
   where

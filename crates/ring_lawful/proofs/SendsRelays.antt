@@ -25,7 +25,8 @@ opid_same a b is =
     opid_with : ℕ → ℕ → Opid
     opid_with term position = record { term = term; position = position }
 
-found_follow : (log : List Entry) (top : ℕ) (before : Opid) (os : List Opid) → opids_follow top before os ≡ true → opids_follow top before (opids_of (found log os)) ≡ true
+found_follow : (log : List Entry) (top : ℕ) (before : Opid) (os : List Opid) → opids_follow top before os ≡ true
+    → opids_follow top before (opids_of (found log os)) ≡ true
 found_follow log top before [] is = refl
 found_follow log top before (o ∷ os) is = go (entry_at log o.position) (found_follow log top o os rest)
   where
@@ -35,7 +36,8 @@ found_follow log top before (o ∷ os) is = go (entry_at log o.position) (found_
     rest : opids_follow top o os ≡ true
     rest = parts.1
 
-    go : (r : Option Entry) → opids_follow top o (opids_of (found log os)) ≡ true → opids_follow top before (opids_of (elim r [ None ↦ [] | Some e ↦ if same_opid e.opid o then e ∷ found log os else [] ])) ≡ true
+    go : (r : Option Entry) → opids_follow top o (opids_of (found log os)) ≡ true
+        → opids_follow top before (opids_of (elim r [ None ↦ [] | Some e ↦ if same_opid e.opid o then e ∷ found log os else [] ])) ≡ true
     go None ih = refl
     go (Some e) ih = pick (same_opid e.opid o) refl
       where
@@ -50,7 +52,8 @@ found_opids log (o ∷ os) is = go (entry_at log o.position) (found_opids log os
     parts : (opid_fits o ≡ true) × (list_all opid_fits os ≡ true)
     parts = both_true (opid_fits o) (list_all opid_fits os) is
 
-    go : (r : Option Entry) → list_all opid_fits (opids_of (found log os)) ≡ true → list_all opid_fits (opids_of (elim r [ None ↦ [] | Some e ↦ if same_opid e.opid o then e ∷ found log os else [] ])) ≡ true
+    go : (r : Option Entry) → list_all opid_fits (opids_of (found log os)) ≡ true
+        → list_all opid_fits (opids_of (elim r [ None ↦ [] | Some e ↦ if same_opid e.opid o then e ∷ found log os else [] ])) ≡ true
     go None ih = refl
     go (Some e) ih = pick (same_opid e.opid o) refl
       where
@@ -62,7 +65,8 @@ found_short : (log : List Entry) (os : List Opid) → length (found log os) ≤ 
 found_short log [] = omega arith
 found_short log (o ∷ os) = go (entry_at log o.position) (found_short log os)
   where
-    go : (r : Option Entry) → length (found log os) ≤ length os → length {A = Entry} (elim r [ None ↦ [] | Some e ↦ if same_opid e.opid o then e ∷ found log os else [] ]) ≤ suc (length os)
+    go : (r : Option Entry) → length (found log os) ≤ length os
+        → length {A = Entry} (elim r [ None ↦ [] | Some e ↦ if same_opid e.opid o then e ∷ found log os else [] ]) ≤ suc (length os)
     go None ih = omega arith
     go (Some e) ih = pick (same_opid e.opid o)
       where

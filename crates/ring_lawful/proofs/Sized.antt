@@ -124,7 +124,8 @@ rising_push (w ∷ votes) v r low =
     let here = z.0 in
     (all_join (λ (u : Vote). nat_lt w.term u.term) votes (v ∷ []) r.0 (rw here refl), rising_push votes v r.1 z.1)
 
-none_in : (votes : List Vote) (t : ℕ) → vote_in votes t ≡ None → list_all (λ (w : Vote). nat_le w.term t) votes ≡ true → list_all (λ (w : Vote). nat_lt w.term t) votes ≡ true
+none_in : (votes : List Vote) (t : ℕ) → vote_in votes t ≡ None → list_all (λ (w : Vote). nat_le w.term t) votes ≡ true
+    → list_all (λ (w : Vote). nat_lt w.term t) votes ≡ true
 none_in [] t is low = refl
 none_in (w ∷ votes) t is low = go (w.term == t) refl is (both_true (nat_le w.term t) (list_all (λ (w : Vote). nat_le w.term t) votes) low)
     (λ rest. none_in votes t rest (both_true (nat_le w.term t) (list_all (λ (w : Vote). nat_le w.term t) votes) low).1)
@@ -210,7 +211,8 @@ fit_parts ring e fit =
     let b = both_true (nat_le (group_bytes ring.schema e.payload) group_limit) (nat_lt e.opid.position TERM_END) a.0 in
     (b.0, b.1, a.1)
 
-pair_fits : (ring : Layout) (e : Entry) (p : Pair) → entry_fits ring e ≡ true → pair_of e ≡ Some p → (payload_fits ring.schema (payload.Txn p.txn) ≡ true) × (group_bytes ring.schema (payload.Txn p.txn) ≤ group_limit)
+pair_fits : (ring : Layout) (e : Entry) (p : Pair) → entry_fits ring e ≡ true → pair_of e ≡ Some p
+    → (payload_fits ring.schema (payload.Txn p.txn) ≡ true) × (group_bytes ring.schema (payload.Txn p.txn) ≤ group_limit)
 pair_fits ring e p fit has = go e.payload refl has
   where
     low : (n : ℕ) → nat_le n group_limit ≡ true → n ≤ group_limit
@@ -223,7 +225,8 @@ pair_fits ring e p fit has = go e.payload refl has
           low (group_bytes ring.schema (payload.Txn t)) (subst (λ (p : Payload). nat_le (group_bytes ring.schema p) group_limit ≡ true) is parts.0),
         )
 
-    go : (b : Payload) → e.payload ≡ b → pair_of e ≡ Some p → (payload_fits ring.schema (payload.Txn p.txn) ≡ true) × (group_bytes ring.schema (payload.Txn p.txn) ≤ group_limit)
+    go : (b : Payload) → e.payload ≡ b → pair_of e ≡ Some p
+        → (payload_fits ring.schema (payload.Txn p.txn) ≡ true) × (group_bytes ring.schema (payload.Txn p.txn) ≤ group_limit)
     go payload.NoOp is has = absurd (let z : pair_of e ≡ None = rw is refl in cc)
     go payload.Rotate is has = absurd (let z : pair_of e ≡ None = rw is refl in cc)
     go (payload.Txn t) is has =
@@ -239,14 +242,16 @@ prepare_fits ring d pairs e fit = go (pair_of e) refl (is_prepared pairs e.opid)
     go (Some p) is true = tt
     go (Some p) is false = (pair_fits ring e p fit is, tt)
 
-prepare_may : (ring : Layout) (d : Durable) (pairs : List Pair) (l : List Entry) (k : ℕ) → list_all (entry_fits ring) l ≡ true → Allowed (May ring) d (prepare_entry pairs (entry_at l k))
+prepare_may : (ring : Layout) (d : Durable) (pairs : List Pair) (l : List Entry) (k : ℕ) → list_all (entry_fits ring) l ≡ true
+    → Allowed (May ring) d (prepare_entry pairs (entry_at l k))
 prepare_may ring d pairs l k fit = go (entry_at l k) refl
   where
     go : (o : Option Entry) → entry_at l k ≡ o → Allowed (May ring) d (prepare_entry pairs o)
     go None is = tt
     go (Some e) is = prepare_fits ring d pairs e (all_of (entry_fits ring) l e fit (at_contains l k e is))
 
-engine_may : (ring : Layout) (n a : ℕ) (d : Durable) (l : List Entry) (pairs : List Pair) → list_all (entry_fits ring) l ≡ true → Allowed (May ring) d (engine_actions l pairs a n)
+engine_may : (ring : Layout) (n a : ℕ) (d : Durable) (l : List Entry) (pairs : List Pair) → list_all (entry_fits ring) l ≡ true
+    → Allowed (May ring) d (engine_actions l pairs a n)
 engine_may ring zero a d l pairs fit = tt
 engine_may ring (suc n) a d l pairs fit =
     allowed_join (May ring) d (prepare_entry pairs (entry_at l (suc a))) (action.Commit (suc a) ∷ engine_actions l pairs (suc a) n) (prepare_may ring d pairs l (suc a) fit)

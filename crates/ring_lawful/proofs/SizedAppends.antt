@@ -30,7 +30,8 @@ use Rattle.ring_lawful.proofs.Sized.{AllFit, BodyFits, May, Sized, all_drop, all
 use Rattle.ring_lawful.proofs.SizedSteps.{IsShort, Keeps, idle_keeps, quiet_keeps}
 
 -- ---- what a member does with an Append
-rest_fits : (ring : Layout) (log : List Entry) (q : ℕ) (es : List Entry) → list_all (entry_fits ring) es ≡ true → (list_all (entry_fits ring) (unmatched log q es) ≡ true) × (turns (unmatched log q es) ≤ turns es)
+rest_fits : (ring : Layout) (log : List Entry) (q : ℕ) (es : List Entry) → list_all (entry_fits ring) es ≡ true
+    → (list_all (entry_fits ring) (unmatched log q es) ≡ true) × (turns (unmatched log q es) ≤ turns es)
 rest_fits ring log q [] fit = (refl, omega arith)
 rest_fits ring log q (e ∷ es) fit = go (nat_lt q (length log) && term_at log (suc q) == e.opid.term) refl (rest_fits ring log (suc q) es (both_true (entry_fits ring e) (list_all (entry_fits ring) es) fit).1)
   where
@@ -41,12 +42,14 @@ rest_fits ring log q (e ∷ es) fit = go (nat_lt q (length log) && term_at log (
         turn true is = rw is (omega arith)
         turn false is = rw is (omega arith)
 
-    go : (b : Bool) → (nat_lt q (length log) && term_at log (suc q) == e.opid.term) ≡ b → (list_all (entry_fits ring) (unmatched log (suc q) es) ≡ true) × (turns (unmatched log (suc q) es) ≤ turns es)
+    go : (b : Bool) → (nat_lt q (length log) && term_at log (suc q) == e.opid.term) ≡ b
+        → (list_all (entry_fits ring) (unmatched log (suc q) es) ≡ true) × (turns (unmatched log (suc q) es) ≤ turns es)
         → (list_all (entry_fits ring) (unmatched log q (e ∷ es)) ≡ true) × (turns (unmatched log q (e ∷ es)) ≤ turns (e ∷ es))
     go true is rest = rw is (rest.0, (let a = rest.1 in omega (arith, a, more)))
     go false is rest = rw is (fit, omega arith)
 
-taken_may : (ring : Layout) (me kept : ℕ) (d e : Durable) (rest : List Entry) → e.log ≡ d.log → list_all (entry_fits ring) rest ≡ true → turns d.log + turns rest ≤ LAST_FILE - 1 → Allowed (May ring) e (take_in ring me d kept rest)
+taken_may : (ring : Layout) (me kept : ℕ) (d e : Durable) (rest : List Entry) → e.log ≡ d.log → list_all (entry_fits ring) rest ≡ true
+    → turns d.log + turns rest ≤ LAST_FILE - 1 → Allowed (May ring) e (take_in ring me d kept rest)
 taken_may ring me kept d e [] l fit few = tt
 taken_may ring me kept d e (x ∷ rest) l fit few = go (nat_lt kept (length d.log)) refl (runs_engine ring me)
   where
@@ -59,12 +62,14 @@ taken_may ring me kept d e (x ∷ rest) l fit few = go (nat_lt kept (length d.lo
     high : nat_lt kept (length d.log) ≡ true → kept ≤ length e.log
     high is = let n : length e.log ≡ length d.log = ap length l in grind (arith, nat_tests, is, n)
 
-    go : (b : Bool) → nat_lt kept (length d.log) ≡ b → (c : Bool) → Allowed (May ring) e (if b then action.Truncate kept ∷ ((if c then action.RollBackAfter kept ∷ [] else []) ++ (action.Append (x ∷ rest) ∷ [])) else action.Append (x ∷ rest) ∷ [])
+    go : (b : Bool) → nat_lt kept (length d.log) ≡ b → (c : Bool)
+        → Allowed (May ring) e (if b then action.Truncate kept ∷ ((if c then action.RollBackAfter kept ∷ [] else []) ++ (action.Append (x ∷ rest) ∷ [])) else action.Append (x ∷ rest) ∷ [])
     go true is true = (high is, (tt, ((fit, cut), tt)))
     go true is false = (high is, ((fit, cut), tt))
     go false is c = ((fit, all), tt)
 
-module _ (ring : Layout) (me : ℕ) (d : Durable) (s : Soft) (first : List Action) (says : List Say) (sent : Append) (x : Sized ring d) (a : Allowed (May ring) d first) (l : (all_done d first).log ≡ d.log) (role : s.role ≡ Follower)
+module _ (ring : Layout) (me : ℕ) (d : Durable) (s : Soft) (first : List Action) (says : List Say) (sent : Append) (x : Sized ring d)
+    (a : Allowed (May ring) d first) (l : (all_done d first).log ≡ d.log) (role : s.role ≡ Follower)
     (fits : sent.term < TERM_END) (fit : list_all (entry_fits ring) sent.entries ≡ true) (few : turns d.log + turns sent.entries ≤ LAST_FILE - 1) where
   accept_keeps : Keeps ring d (accept ring me d s first says sent)
   accept_keeps =
@@ -92,7 +97,8 @@ module _ (ring : Layout) (me : ℕ) (d : Durable) (s : Soft) (first : List Actio
       go false true = accept_keeps
       go false false = refusing_keeps (sent.prev.position - 1)
 
-follow_keeps : (ring : Layout) (me : ℕ) (d : Durable) (s : Soft) (sent : Append) → Sized ring d → IsShort d s → sent.term < TERM_END → list_all (entry_fits ring) sent.entries ≡ true → turns d.log + turns sent.entries ≤ LAST_FILE - 1 → Keeps ring d (follow_append ring me d s sent)
+follow_keeps : (ring : Layout) (me : ℕ) (d : Durable) (s : Soft) (sent : Append) → Sized ring d → IsShort d s → sent.term < TERM_END
+    → list_all (entry_fits ring) sent.entries ≡ true → turns d.log + turns sent.entries ≤ LAST_FILE - 1 → Keeps ring d (follow_append ring me d s sent)
 follow_keeps ring me d s sent x short fits fit few = go (nat_lt d.term sent.term) refl s.role refl
   where
     go : (b : Bool) → nat_lt d.term sent.term ≡ b → (o : Role) → s.role ≡ o
@@ -106,7 +112,8 @@ follow_keeps ring me d s sent x short fits fit few = go (nat_lt d.term sent.term
 files_are : (a b : ℕ) → nat_lt file_limit (suc a + b) ≡ false → a + b ≤ LAST_FILE - 1
 files_are a b is = grind (arith, nat_tests, is)
 
-pub append_keeps : (ring : Layout) (me : ℕ) (sent : Append) (d : Durable) (s : Soft) → Sized ring d → IsShort d s → sent.term < TERM_END → list_all (entry_fits ring) sent.entries ≡ true → Keeps ring d (on_append ring me d s sent)
+pub append_keeps : (ring : Layout) (me : ℕ) (sent : Append) (d : Durable) (s : Soft) → Sized ring d → IsShort d s → sent.term < TERM_END
+    → list_all (entry_fits ring) sent.entries ≡ true → Keeps ring d (on_append ring me d s sent)
 unfolding on_append
 append_keeps ring me sent d s x short fits fit = go (outgrows d sent) refl (nat_lt sent.term d.term) (leads_it d s sent) (tear_in d s sent)
   where
@@ -147,7 +154,8 @@ pub found_fits : (ring : Layout) (log : List Entry) (os : List Opid) → list_al
 found_fits ring log [] fit = refl
 found_fits ring log (o ∷ os) fit = go (entry_at log o.position) refl (found_fits ring log os fit)
   where
-    go : (r : Option Entry) → entry_at log o.position ≡ r → list_all (entry_fits ring) (found log os) ≡ true → list_all (entry_fits ring) (elim r [ None ↦ [] | Some e ↦ if same_opid e.opid o then e ∷ found log os else [] ]) ≡ true
+    go : (r : Option Entry) → entry_at log o.position ≡ r → list_all (entry_fits ring) (found log os) ≡ true
+        → list_all (entry_fits ring) (elim r [ None ↦ [] | Some e ↦ if same_opid e.opid o then e ∷ found log os else [] ]) ≡ true
     go None is rest = refl
     go (Some e) is rest = pick (same_opid e.opid o)
       where
@@ -155,6 +163,7 @@ found_fits ring log (o ∷ os) fit = go (entry_at log o.position) refl (found_fi
         pick true = let here = at_fits ring log o.position e fit is in rw here rest
         pick false = refl
 
-pub relay_keeps : (ring : Layout) (me from : ℕ) (sent : ProxyAppend) (d : Durable) (s : Soft) → Sized ring d → IsShort d s → sent.term < TERM_END → Keeps ring d (relay me d s from sent)
+pub relay_keeps : (ring : Layout) (me from : ℕ) (sent : ProxyAppend) (d : Durable) (s : Soft) → Sized ring d → IsShort d s → sent.term < TERM_END
+    → Keeps ring d (relay me d s from sent)
 unfolding relay
 relay_keeps ring me from sent d s x short fits = quiet_keeps ring d s s _ [] short refl ((fits, found_fits ring d.log sent.opids x.entries), tt)

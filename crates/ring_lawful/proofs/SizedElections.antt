@@ -31,7 +31,8 @@ use Rattle.ring_lawful.proofs.Along.{Allowed, allowed_join}
 use Rattle.ring_lawful.proofs.Sized.{AllFit, May, Sized, none_later, turns}
 use Rattle.ring_lawful.proofs.SizedSteps.{IsShort, Keeps, advance_keeps, follower_short, idle_keeps, own_fits, quiet_keeps, raise_keeps}
 
-ask_keeps : (ring : Layout) (me : ℕ) (d : Durable) (s : Soft) (first : List Action) (says : List Say) (grants : List Grant) (asks : List Message) → Sized ring d → Allowed (May ring) d first → length (all_done d first).log < TERM_END - 1
+ask_keeps : (ring : Layout) (me : ℕ) (d : Durable) (s : Soft) (first : List Action) (says : List Say) (grants : List Grant) (asks : List Message)
+    → Sized ring d → Allowed (May ring) d first → length (all_done d first).log < TERM_END - 1
     → turns (all_done d first).log ≤ LAST_FILE - 1 → AllFit ring asks → Keeps ring d (lead_or_ask ring me d s first says grants asks)
 unfolding lead_or_ask
 ask_keeps ring me d s first says grants asks x a short few fit = go (has_won ring me (all_done d first) grants)
@@ -46,7 +47,8 @@ requests_fit : (ring : Layout) (me term : ℕ) (asked : Opid) (members : List Me
 requests_fit ring me term asked [] fits = tt
 requests_fit ring me term asked (m ∷ members) fits = go (m.id == me) refl (is_voter m.kind) refl (requests_fit ring me term asked members fits)
   where
-    go : (a : Bool) → (m.id == me) ≡ a → (b : Bool) → is_voter m.kind ≡ b → AllFit ring (requests me term asked members) → AllFit ring (requests me term asked (m ∷ members))
+    go : (a : Bool) → (m.id == me) ≡ a → (b : Bool) → is_voter m.kind ≡ b → AllFit ring (requests me term asked members)
+        → AllFit ring (requests me term asked (m ∷ members))
     go true x b y rest = rw x rest
     go false x true y rest = rw (x, y) (fits, rest)
     go false x false y rest = rw (x, y) rest
@@ -60,9 +62,12 @@ pub record MayStand (ring : Layout) (me : ℕ) (d : Durable) (s : Soft) : Type 0
 
 pub may_stand : (ring : Layout) (me : ℕ) (d : Durable) (s : Soft) → may_elect ring me d s ≡ true → MayStand ring me d s
 may_stand ring me d s is =
-    let a = both_true (votes ring me && not (is_leader s.role) && nat_lt d.term (TERM_END - 1) && nat_lt (length d.log) (TERM_END - 1)) (has_room (floor_of d s) d.votes) is in
-    let b = both_true (votes ring me && not (is_leader s.role) && nat_lt d.term (TERM_END - 1)) (nat_lt (length d.log) (TERM_END - 1)) a.0 in
-    let c = both_true (votes ring me && not (is_leader s.role)) (nat_lt d.term (TERM_END - 1)) b.0 in
+    let stands : Bool = votes ring me && not (is_leader s.role) in
+    let low : Bool = nat_lt d.term (TERM_END - 1) in
+    let short : Bool = nat_lt (length d.log) (TERM_END - 1) in
+    let a = both_true (stands && low && short) (has_room (floor_of d s) d.votes) is in
+    let b = both_true (stands && low) short a.0 in
+    let c = both_true stands low b.0 in
     record {
       voter = (both_true (votes ring me) (not (is_leader s.role)) c.0).0;
       term = (let x = c.1 in grind (arith, nat_tests, x));
@@ -85,15 +90,18 @@ elect_keeps ring me d s x short = go (may_elect ring me d s) refl
     go true is = stands (may_stand ring me d s is)
     go false is = idle_keeps ring d s short
 
-pub reply_keeps : (ring : Layout) (me from : ℕ) (reply : VoteReply) (d : Durable) (s : Soft) → Sized ring d → IsShort d s → reply.term < TERM_END → Keeps ring d (on_reply ring me d s from reply)
+pub reply_keeps : (ring : Layout) (me from : ℕ) (reply : VoteReply) (d : Durable) (s : Soft) → Sized ring d → IsShort d s → reply.term < TERM_END
+    → Keeps ring d (on_reply ring me d s from reply)
 unfolding on_reply
 reply_keeps ring me from reply d s x short fits = go s.role refl
   where
-    count : s.role ≡ Candidate → (b : Bool) → Keeps ring d (if b then lead_or_ask ring me d s [] [] (s.grants ++ record { voter = from; votes = reply.votes } ∷ []) [] else idle s)
+    count : s.role ≡ Candidate → (b : Bool)
+        → Keeps ring d (if b then lead_or_ask ring me d s [] [] (s.grants ++ record { voter = from; votes = reply.votes } ∷ []) [] else idle s)
     count role true = ask_keeps ring me d s [] [] (s.grants ++ record { voter = from; votes = reply.votes } ∷ []) [] x tt (short role) x.files tt
     count role false = idle_keeps ring d s short
 
-    hears : s.role ≡ Candidate → (b : Bool) → nat_lt d.term reply.term ≡ b → Keeps ring d (if b then stepped (action.SetTerm reply.term ∷ []) [] (unknowns s) (demoted s) else count_grant ring me d s from reply)
+    hears : s.role ≡ Candidate → (b : Bool) → nat_lt d.term reply.term ≡ b
+        → Keeps ring d (if b then stepped (action.SetTerm reply.term ∷ []) [] (unknowns s) (demoted s) else count_grant ring me d s from reply)
     hears role true is = raise_keeps ring reply.term d s [] (unknowns s) (grind (arith, nat_tests, is)) fits tt
     hears role false is = count role (reply.granted && reply.term == d.term && not (has_granted s.grants from))
 
@@ -103,7 +111,8 @@ reply_keeps ring me from reply d s x short fits = go s.role refl
     go Leader role = idle_keeps ring d s short
 
 -- ---- votes
-vote_keeps : (ring : Layout) (d : Durable) (o : Soft) (first : List Action) (v : Vote) (floor : ℕ) (ms : List Message) (says : List Say) → Allowed (May ring) d first → May ring (all_done d first) (action.Vote v floor) → IsShort (all_done d first) o → AllFit ring ms
+vote_keeps : (ring : Layout) (d : Durable) (o : Soft) (first : List Action) (v : Vote) (floor : ℕ) (ms : List Message) (says : List Say)
+    → Allowed (May ring) d first → May ring (all_done d first) (action.Vote v floor) → IsShort (all_done d first) o → AllFit ring ms
     → Keeps ring d (stepped (first ++ (action.Vote v floor ∷ [])) ms says o)
 vote_keeps ring d o first v floor ms says a may short fit = record {
   allowed = allowed_join (May ring) d first (action.Vote v floor ∷ []) a (may, tt);
@@ -111,7 +120,8 @@ vote_keeps ring d o first v floor ms says a may short fit = record {
   sent = fit;
 }
 
-answer_keeps : (ring : Layout) (me : ℕ) (d : Durable) (o : Soft) (first : List Action) (says : List Say) (from : ℕ) (asked : RequestVote) → Allowed (May ring) d first → (all_done d first).term ≡ asked.term → (all_done d first).votes ≡ d.votes
+answer_keeps : (ring : Layout) (me : ℕ) (d : Durable) (o : Soft) (first : List Action) (says : List Say) (from : ℕ) (asked : RequestVote)
+    → Allowed (May ring) d first → (all_done d first).term ≡ asked.term → (all_done d first).votes ≡ d.votes
     → IsShort (all_done d first) o → asked.term < TERM_END → Keeps ring d (answer_request ring me d o first says from asked)
 answer_keeps ring me d o first says from asked a is_t same short fits = go (vote_in d.votes asked.term) refl
   where
@@ -133,7 +143,8 @@ answer_keeps ring me d o first says from asked a is_t same short fits = go (vote
     go (Some w) is = kept (w.candidate == from)
     go None is = fresh is (at_least asked.last (last d.log)) (has_room (floor_of d o) d.votes) refl
 
-pub request_keeps : (ring : Layout) (me from : ℕ) (asked : RequestVote) (d : Durable) (s : Soft) → Sized ring d → IsShort d s → asked.term < TERM_END → Keeps ring d (on_request ring me d s from asked)
+pub request_keeps : (ring : Layout) (me from : ℕ) (asked : RequestVote) (d : Durable) (s : Soft) → Sized ring d → IsShort d s → asked.term < TERM_END
+    → Keeps ring d (on_request ring me d s from asked)
 unfolding on_request
 request_keeps ring me from asked d s x short fits = voter (votes ring me)
   where

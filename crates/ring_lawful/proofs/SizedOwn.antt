@@ -45,7 +45,8 @@ leads_is s is = go s.role refl
     go Candidate x = absurd (let z : false ≡ true = sym (ap is_leader x) ∙ is in cc)
     go Leader x = x
 
-ack_keeps : (ring : Layout) (me from : ℕ) (answer : AppendReply) (d : Durable) (s : Soft) → Sized ring d → IsShort d s → answer.term < TERM_END → Keeps ring d (on_ack ring me d s from answer)
+ack_keeps : (ring : Layout) (me from : ℕ) (answer : AppendReply) (d : Durable) (s : Soft) → Sized ring d → IsShort d s → answer.term < TERM_END
+    → Keeps ring d (on_ack ring me d s from answer)
 unfolding on_ack
 ack_keeps ring me from answer d s sized short fits = go (nat_lt d.term answer.term) refl (counts d s answer) refl
   where
@@ -65,7 +66,8 @@ over_fit ring me from d peers (transfer.Handing target client) = go (target == f
     go true false = tt
     go false b = tt
 
-pub answered_keeps : (ring : Layout) (me from : ℕ) (answer : AppendReply) (d : Durable) (s : Soft) → Sized ring d → IsShort d s → answer.term < TERM_END → Keeps ring d (on_answer ring me d s from answer)
+pub answered_keeps : (ring : Layout) (me from : ℕ) (answer : AppendReply) (d : Durable) (s : Soft) → Sized ring d → IsShort d s → answer.term < TERM_END
+    → Keeps ring d (on_answer ring me d s from answer)
 unfolding on_answer
 answered_keeps ring me from answer d s x short fits = go (counts d s answer && answer.ok)
   where
@@ -111,28 +113,34 @@ sizes_fit ring me d changes is = go (nat_lt group_limit (group_size ring.schema 
 lock_asked : (ring : Layout) (me : ℕ) (d : Durable) (changes : List Change) → lock_refusal ring me d changes ≡ None → size_refusal ring me d changes ≡ None
 lock_asked ring me d changes is = go (lock_of d.prepared changes) is
   where
-    go : (o : Option Cause) → ◌≡◌ {A = Option Cause} (elim o [ Some c ↦ Some c | None ↦ size_refusal ring me d changes ]) None → size_refusal ring me d changes ≡ None
+    go : (o : Option Cause) → ◌≡◌ {A = Option Cause} (elim o [ Some c ↦ Some c | None ↦ size_refusal ring me d changes ]) None
+        → size_refusal ring me d changes ≡ None
     go (Some c) is = absurd cc
     go None is = is
 
 change_asked : (ring : Layout) (me : ℕ) (d : Durable) (changes : List Change) → change_refusal ring me d changes ≡ None → size_refusal ring me d changes ≡ None
 change_asked ring me d changes is = go (check ring.schema (committed_rows ring d) changes) is
   where
-    go : (o : Option RowRefusal) → ◌≡◌ {A = Option Cause} (elim o [ Some r ↦ Some (cause.Invalid r) | None ↦ lock_refusal ring me d changes ]) None → size_refusal ring me d changes ≡ None
+    go : (o : Option RowRefusal) → ◌≡◌ {A = Option Cause} (elim o [ Some r ↦ Some (cause.Invalid r) | None ↦ lock_refusal ring me d changes ]) None
+        → size_refusal ring me d changes ≡ None
     go (Some r) is = absurd cc
     go None is = lock_asked ring me d changes is
 
-change_checked : (ring : Layout) (me : ℕ) (d : Durable) (changes : List Change) → change_refusal ring me d changes ≡ None → check ring.schema (committed_rows ring d) changes ≡ None
+change_checked : (ring : Layout) (me : ℕ) (d : Durable) (changes : List Change) → change_refusal ring me d changes ≡ None
+    → check ring.schema (committed_rows ring d) changes ≡ None
 change_checked ring me d changes is = go (check ring.schema (committed_rows ring d) changes) refl is
   where
-    go : (o : Option RowRefusal) → check ring.schema (committed_rows ring d) changes ≡ o → ◌≡◌ {A = Option Cause} (elim o [ Some r ↦ Some (cause.Invalid r) | None ↦ lock_refusal ring me d changes ]) None → check ring.schema (committed_rows ring d) changes ≡ None
+    go : (o : Option RowRefusal) → check ring.schema (committed_rows ring d) changes ≡ o
+        → ◌≡◌ {A = Option Cause} (elim o [ Some r ↦ Some (cause.Invalid r) | None ↦ lock_refusal ring me d changes ]) None
+        → check ring.schema (committed_rows ring d) changes ≡ None
     go (Some r) x is = absurd cc
     go None x is = x
 
 all_three : (a b c : Bool) → a ≡ true → b ≡ true → c ≡ true → ((a && b) && c) ≡ true
 all_three a b c x y z = rw (x, y, z) refl
 
-may_write : (ring : Layout) (me : ℕ) (d : Durable) (s : Soft) (changes : List Change) → nat_lt 0 (length changes) ≡ true → write_refusal ring me d s changes ≡ None → MayWrite ring me d s changes
+may_write : (ring : Layout) (me : ℕ) (d : Durable) (s : Soft) (changes : List Change) → nat_lt 0 (length changes) ≡ true
+    → write_refusal ring me d s changes ≡ None → MayWrite ring me d s changes
 unfolding write_refusal
 may_write ring me d s changes some is = go (is_leader s.role) refl (is_ready s) (runs_engine ring me) (is_handing s.transfer) is
   where
@@ -149,7 +157,8 @@ may_write ring me d s changes some is = go (is_leader s.role) refl (is_ready s) 
         let n = y.2 in
         record { leads = leads_is s x; small = y.0; short = y.1; fits = all_three (nat_le 1 (length changes)) (list_all (change_fits ring.schema) changes) (is_number (write_txn ring me d changes).gtid.number) a c n }
 
-pub write_keeps : (ring : Layout) (me client : ℕ) (changes : List Change) (d : Durable) (s : Soft) → nat_lt 0 (length changes) ≡ true → Sized ring d → IsShort d s → Keeps ring d (write ring me d s client changes)
+pub write_keeps : (ring : Layout) (me client : ℕ) (changes : List Change) (d : Durable) (s : Soft) → nat_lt 0 (length changes) ≡ true → Sized ring d
+    → IsShort d s → Keeps ring d (write ring me d s client changes)
 unfolding write
 write_keeps ring me client changes d s some x short = go (write_refusal ring me d s changes) refl
   where
@@ -192,7 +201,8 @@ pub rotate_keeps : (ring : Layout) (me client : ℕ) (d : Durable) (s : Soft) �
 unfolding rotate
 rotate_keeps ring me client d s x short = go (rotate_refusal ring me d s) refl
   where
-    go : (c : Option Cause) → rotate_refusal ring me d s ≡ c → Keeps ring d (elim c [ Some c ↦ refused s client c | None ↦ rotate_step ring me d s client (own_entry ring me d payload.Rotate) ])
+    go : (c : Option Cause) → rotate_refusal ring me d s ≡ c
+        → Keeps ring d (elim c [ Some c ↦ refused s client c | None ↦ rotate_step ring me d s client (own_entry ring me d payload.Rotate) ])
     go (Some c) is = quiet_keeps ring d s s [] _ short refl tt
     go None is =
         let m = may_rotate ring me d s is in

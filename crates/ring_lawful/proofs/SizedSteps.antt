@@ -37,17 +37,20 @@ leader_short : (d : Durable) (s : Soft) → s.role ≡ Leader → IsShort d s
 leader_short d s is bad = absurd (let z : Leader ≡ Candidate = sym is ∙ bad in cc)
 
 -- ---- steps without actions
-pub quiet_keeps : (ring : Layout) (d : Durable) (s o : Soft) (ms : List Message) (says : List Say) → IsShort d s → o.role ≡ s.role → AllFit ring ms → Keeps ring d (stepped [] ms says o)
+pub quiet_keeps : (ring : Layout) (d : Durable) (s o : Soft) (ms : List Message) (says : List Say) → IsShort d s → o.role ≡ s.role → AllFit ring ms
+    → Keeps ring d (stepped [] ms says o)
 quiet_keeps ring d s o ms says x same fit = record { allowed = tt; short = λ is. x (sym same ∙ is); sent = fit }
 
 pub idle_keeps : (ring : Layout) (d : Durable) (s : Soft) → IsShort d s → Keeps ring d (idle s)
 idle_keeps ring d s x = quiet_keeps ring d s s [] [] x refl tt
 
-pub raise_keeps : (ring : Layout) (t : ℕ) (d : Durable) (s : Soft) (ms : List Message) (says : List Say) → d.term < t → t < TERM_END → AllFit ring ms → Keeps ring d (stepped (action.SetTerm t ∷ []) ms says (demoted s))
+pub raise_keeps : (ring : Layout) (t : ℕ) (d : Durable) (s : Soft) (ms : List Message) (says : List Say) → d.term < t → t < TERM_END → AllFit ring ms
+    → Keeps ring d (stepped (action.SetTerm t ∷ []) ms says (demoted s))
 raise_keeps ring t d s ms says up fits fit = record { allowed = ((up, fits), tt); short = follower_short (done d (action.SetTerm t)) (demoted s) refl; sent = fit }
 
 -- ---- a leader's step
-pub advance_keeps : (ring : Layout) (me : ℕ) (d : Durable) (s : Soft) (first : List Action) (says : List Say) → Sized ring d → Allowed (May ring) d first → s.role ≡ Leader → Keeps ring d (advance ring me d s first says)
+pub advance_keeps : (ring : Layout) (me : ℕ) (d : Durable) (s : Soft) (first : List Action) (says : List Say) → Sized ring d → Allowed (May ring) d first
+    → s.role ≡ Leader → Keeps ring d (advance ring me d s first says)
 unfolding advance
 advance_keeps ring me d s first says x a role = record {
   allowed = allowed_join (May ring) d first (follow_actions ring me (all_done d first) (commit_count ring me (all_done d first).term (all_done d first).log s)) a (follow_may ring me (all_done d first) (commit_count ring me (all_done d first).term (all_done d first).log s) (sized_after ring d first a x).entries);
@@ -55,7 +58,8 @@ advance_keeps ring me d s first says x a role = record {
   sent = tt;
 }
 
-pub own_fits : (ring : Layout) (me : ℕ) (d : Durable) (p : Payload) → group_bytes ring.schema p ≤ group_limit → suc (length d.log) < TERM_END → payload_fits ring.schema p ≡ true → list_all (entry_fits ring) (own_entry ring me d p ∷ []) ≡ true
+pub own_fits : (ring : Layout) (me : ℕ) (d : Durable) (p : Payload) → group_bytes ring.schema p ≤ group_limit → suc (length d.log) < TERM_END
+    → payload_fits ring.schema p ≡ true → list_all (entry_fits ring) (own_entry ring me d p ∷ []) ≡ true
 own_fits ring me d p small short fit =
     let a : nat_le (group_bytes ring.schema p) group_limit ≡ true = grind (arith, nat_tests, small) in
     let b : nat_lt (suc (length d.log)) TERM_END ≡ true = grind (arith, nat_tests, short) in

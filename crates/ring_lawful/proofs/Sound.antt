@@ -61,7 +61,8 @@ mock_requests_fit : (ring : Layout) (me term round : ℕ) (asked : Opid) (member
 mock_requests_fit ring me term round asked [] = tt
 mock_requests_fit ring me term round asked (m ∷ members) = go (m.id == me) refl (is_voter m.kind) refl (mock_requests_fit ring me term round asked members)
   where
-    go : (a : Bool) → (m.id == me) ≡ a → (b : Bool) → is_voter m.kind ≡ b → AllFit ring (mock_requests me term round asked members) → AllFit ring (mock_requests me term round asked (m ∷ members))
+    go : (a : Bool) → (m.id == me) ≡ a → (b : Bool) → is_voter m.kind ≡ b → AllFit ring (mock_requests me term round asked members)
+        → AllFit ring (mock_requests me term round asked (m ∷ members))
     go true x b y rest = rw x rest
     go false x true y rest = rw (x, y) (tt, rest)
     go false x false y rest = rw (x, y) rest
@@ -94,7 +95,8 @@ deciding_fits ring me leader term round (Some x) b = tt
 deciding_fits ring me leader term round None None = tt
 deciding_fits ring me leader term round None (Some ok) = (tt, tt)
 
-count_keeps : (ring : Layout) (me from : ℕ) (answer : MockReply) (d : Durable) (s : Soft) (leader : ℕ) (asked : Opid) (passed failed : List ℕ) → IsShort d s → Keeps ring d (count_answer ring me d s from answer leader asked passed failed)
+count_keeps : (ring : Layout) (me from : ℕ) (answer : MockReply) (d : Durable) (s : Soft) (leader : ℕ) (asked : Opid) (passed failed : List ℕ) → IsShort d s
+    → Keeps ring d (count_answer ring me d s from answer leader asked passed failed)
 count_keeps ring me from answer d s leader asked passed failed short = go (is_listed passed from || is_listed failed from) answer.ok
   where
     with_keeps : (more_passed more_failed : List ℕ) → Keeps ring d (with_answer ring me d s leader answer.round asked passed failed more_passed more_failed)
@@ -107,7 +109,8 @@ count_keeps ring me from answer d s leader asked passed failed short = go (is_li
     go false true = with_keeps (passed ++ from ∷ []) failed
     go false false = with_keeps passed (failed ++ from ∷ [])
 
-heard_keeps : (ring : Layout) (me from : ℕ) (answer : MockReply) (d : Durable) (s : Soft) (m : Mock) → IsShort d s → Keeps ring d (mock_hears ring me d s from answer m)
+heard_keeps : (ring : Layout) (me from : ℕ) (answer : MockReply) (d : Durable) (s : Soft) (m : Mock) → IsShort d s
+    → Keeps ring d (mock_hears ring me d s from answer m)
 heard_keeps ring me from answer d s mock.Off short = idle_keeps ring d s short
 heard_keeps ring me from answer d s (mock.On leader round asked passed failed) short = go (answer.term == d.term && answer.round == round)
   where
@@ -115,7 +118,8 @@ heard_keeps ring me from answer d s (mock.On leader round asked passed failed) s
     go true = count_keeps ring me from answer d s leader asked passed failed short
     go false = idle_keeps ring d s short
 
-mock_reply_keeps : (ring : Layout) (me from : ℕ) (answer : MockReply) (d : Durable) (s : Soft) → IsShort d s → Keeps ring d (on_mock_reply ring me d s from answer)
+mock_reply_keeps : (ring : Layout) (me from : ℕ) (answer : MockReply) (d : Durable) (s : Soft) → IsShort d s
+    → Keeps ring d (on_mock_reply ring me d s from answer)
 unfolding on_mock_reply
 mock_reply_keeps ring me from answer d s short = heard_keeps ring me from answer d s s.mock short
 
@@ -126,11 +130,13 @@ hand_fits ring me d peers target = go (has_matched peers target (length d.log))
     go true = (tt, tt)
     go false = tt
 
-result_keeps : (ring : Layout) (me : ℕ) (d : Durable) (s : Soft) (ok : Bool) (target client : ℕ) → IsShort d s → Keeps ring d (result_heard me d s ok target client)
+result_keeps : (ring : Layout) (me : ℕ) (d : Durable) (s : Soft) (ok : Bool) (target client : ℕ) → IsShort d s
+    → Keeps ring d (result_heard me d s ok target client)
 result_keeps ring me d s true target client short = quiet_keeps ring d s (record s { transfer = transfer.Handing target client }) _ _ short refl (hand_fits ring me d s.peers target)
 result_keeps ring me d s false target client short = quiet_keeps ring d s (record s { transfer = transfer.Off }) [] _ short refl tt
 
-transfer_heard : (ring : Layout) (me : ℕ) (d : Durable) (s : Soft) (sent : MockResult) (t : Transfer) → IsShort d s → Keeps ring d (transfer_hears me d s sent t)
+transfer_heard : (ring : Layout) (me : ℕ) (d : Durable) (s : Soft) (sent : MockResult) (t : Transfer) → IsShort d s
+    → Keeps ring d (transfer_hears me d s sent t)
 transfer_heard ring me d s sent transfer.Off short = idle_keeps ring d s short
 transfer_heard ring me d s sent (transfer.Handing target client) short = idle_keeps ring d s short
 transfer_heard ring me d s sent (transfer.Mock target round client) short = go (sent.term == d.term && sent.round == round)
@@ -152,7 +158,8 @@ timeout_keeps ring me d s term x short = go (term == d.term && votes ring me && 
     go false = idle_keeps ring d s short
 
 -- ---- any input
-pub body_keeps : (ring : Layout) (me from : ℕ) (d : Durable) (s : Soft) (b : Body) → Sized ring d → IsShort d s → BodyFits ring b → Keeps ring d (body_step ring me d s from b)
+pub body_keeps : (ring : Layout) (me from : ℕ) (d : Durable) (s : Soft) (b : Body) → Sized ring d → IsShort d s → BodyFits ring b
+    → Keeps ring d (body_step ring me d s from b)
 body_keeps ring me from d s (body.RequestVote asked) x short f = request_keeps ring me from asked d s x short f
 body_keeps ring me from d s (body.VoteReply reply) x short f = reply_keeps ring me from reply d s x short f
 body_keeps ring me from d s (body.Append sent) x short f = append_keeps ring me sent d s x short f.0 f.1

@@ -48,7 +48,8 @@ pub record Steady (d : Durable) (st : Step) : Type 0 where
   pub near : is_leader st.soft.role ≡ true → Near (length (all_done d st.plan.actions).log) st.soft.peers
 
 -- ---- steps that leave the log
-pub quiet_steady : (d : Durable) (s o : Soft) (ms : List Message) (says : List Say) → Counted d s → o.role ≡ s.role → o.commit ≡ s.commit → o.peers ≡ s.peers → Steady d (stepped [] ms says o)
+pub quiet_steady : (d : Durable) (s o : Soft) (ms : List Message) (says : List Say) → Counted d s → o.role ≡ s.role → o.commit ≡ s.commit → o.peers ≡ s.peers
+    → Steady d (stepped [] ms says o)
 quiet_steady d s o ms says x role count peers = record {
   allowed = tt;
   inside = (let a = x.inside in omega (arith, a, count));
@@ -93,7 +94,8 @@ tear_head log commit p t ts is differs = go (nat_le p commit) refl (term_at log 
     go true x false w y = absurd cc
     go false x b w y = grind (arith, nat_tests, x)
 
-unmatched_kept : (log : List Entry) (commit p t : ℕ) (es : List Entry) → p ≤ length log → term_at log p ≡ t → Chain t p es → first_tear log commit (suc p) (terms_of es) ≡ None → Kept log commit p es (unmatched log p es)
+unmatched_kept : (log : List Entry) (commit p t : ℕ) (es : List Entry) → p ≤ length log → term_at log p ≡ t → Chain t p es
+    → first_tear log commit (suc p) (terms_of es) ≡ None → Kept log commit p es (unmatched log p es)
 unmatched_kept log commit p t [] high at c whole = record { k = p; is = omega arith; low = omega arith; high = high; total = omega arith; chain = tt; cut = λ some. absurd (omega (arith, some)) }
 unmatched_kept log commit p t (e ∷ es) high at c whole =
     go (nat_lt p (length log)) refl (term_at log (suc p) == e.opid.term) refl
@@ -111,7 +113,8 @@ unmatched_kept log commit p t (e ∷ es) high at c whole =
     }
 
     go : (a : Bool) → nat_lt p (length log) ≡ a → (b : Bool) → (term_at log (suc p) == e.opid.term) ≡ b
-        → (nat_lt p (length log) ≡ true → (term_at log (suc p) == e.opid.term) ≡ true → Kept log commit (suc p) es (unmatched log (suc p) es)) → Kept log commit p (e ∷ es) (unmatched log p (e ∷ es))
+        → (nat_lt p (length log) ≡ true → (term_at log (suc p) == e.opid.term) ≡ true → Kept log commit (suc p) es (unmatched log (suc p) es))
+        → Kept log commit p (e ∷ es) (unmatched log p (e ∷ es))
     go true x true y more =
         let m = more x y in
         let i = m.is in
@@ -121,11 +124,14 @@ unmatched_kept log commit p t (e ∷ es) high at c whole =
     go true x false y more = rw (x, y) (stop (λ lt. y))
     go false x b y more = rw x (stop (λ lt. absurd (let z : true ≡ false = sym lt ∙ x in cc)))
 
-rest_low : (log : List Entry) (top p : ℕ) (es : List Entry) → list_all (λ (e : Entry). nat_le e.opid.term top) es ≡ true → list_all (λ (e : Entry). nat_le e.opid.term top) (unmatched log p es) ≡ true
+rest_low : (log : List Entry) (top p : ℕ) (es : List Entry) → list_all (λ (e : Entry). nat_le e.opid.term top) es ≡ true
+    → list_all (λ (e : Entry). nat_le e.opid.term top) (unmatched log p es) ≡ true
 rest_low log top p [] fit = refl
 rest_low log top p (e ∷ es) fit = go (nat_lt p (length log) && term_at log (suc p) == e.opid.term) refl (rest_low log top (suc p) es (both_true (nat_le e.opid.term top) (list_all (λ (e : Entry). nat_le e.opid.term top) es) fit).1)
   where
-    go : (b : Bool) → (nat_lt p (length log) && term_at log (suc p) == e.opid.term) ≡ b → list_all (λ (e : Entry). nat_le e.opid.term top) (unmatched log (suc p) es) ≡ true → list_all (λ (e : Entry). nat_le e.opid.term top) (unmatched log p (e ∷ es)) ≡ true
+    go : (b : Bool) → (nat_lt p (length log) && term_at log (suc p) == e.opid.term) ≡ b
+        → list_all (λ (e : Entry). nat_le e.opid.term top) (unmatched log (suc p) es) ≡ true
+        → list_all (λ (e : Entry). nat_le e.opid.term top) (unmatched log p (e ∷ es)) ≡ true
     go true is rest = rw is rest
     go false is rest = rw is fit
 
@@ -135,7 +141,8 @@ record Taking (e : Durable) (commit last : ℕ) (actions : List Action) : Type 0
   count : commit ≤ length (all_done e actions).log
   total : last ≤ length (all_done e actions).log
 
-taking : (ring : Layout) (me : ℕ) (d e : Durable) (commit p : ℕ) (es rest : List Entry) (k : Kept d.log commit p es rest) (kept : ℕ) → kept ≡ k.k → e.log ≡ d.log → e.applied ≤ commit → commit ≤ length d.log
+taking : (ring : Layout) (me : ℕ) (d e : Durable) (commit p : ℕ) (es rest : List Entry) (k : Kept d.log commit p es rest) (kept : ℕ) → kept ≡ k.k
+    → e.log ≡ d.log → e.applied ≤ commit → commit ≤ length d.log
     → list_all (λ (x : Entry). nat_le x.opid.term e.term) rest ≡ true → Taking e commit (p + length es) (take_in ring me d kept rest)
 taking ring me d e commit p es [] k kept at l above inside low =
     let n : length e.log ≡ length d.log = ap length l in
@@ -156,7 +163,8 @@ taking ring me d e commit p es (x ∷ rest) k kept at l above inside low = go (n
     there : (log : List Entry) (j : ℕ) → term_at d.log k.k ≡ end 0 log → k.k ≡ j → Chain (end 0 log) j (x ∷ rest)
     there log j t is = subst (λ (m : ℕ). Chain (end 0 log) m (x ∷ rest)) is (subst (λ (m : ℕ). Chain m k.k (x ∷ rest)) t k.chain)
 
-    cut_allowed : nat_lt kept (length d.log) ≡ true → (c : Bool) → Taking e commit (p + length es) (action.Truncate kept ∷ ((if c then action.RollBackAfter kept ∷ [] else []) ++ (action.Append (x ∷ rest) ∷ [])))
+    cut_allowed : nat_lt kept (length d.log) ≡ true → (c : Bool)
+        → Taking e commit (p + length es) (action.Truncate kept ∷ ((if c then action.RollBackAfter kept ∷ [] else []) ++ (action.Append (x ∷ rest) ∷ [])))
     cut_allowed is c = pick c
       where
         some : 1 ≤ length (x ∷ rest)
@@ -186,7 +194,8 @@ taking ring me d e commit p es (x ∷ rest) k kept at l above inside low = go (n
         count : commit ≤ length (take kept e.log ++ (x ∷ rest))
         count = let j = length_join (take kept e.log) (x ∷ rest) in omega (arith, j, size, at, far)
 
-        pick : (c : Bool) → Taking e commit (p + length es) (action.Truncate kept ∷ ((if c then action.RollBackAfter kept ∷ [] else []) ++ (action.Append (x ∷ rest) ∷ [])))
+        pick : (c : Bool) → Taking e commit (p + length es)
+            (action.Truncate kept ∷ ((if c then action.RollBackAfter kept ∷ [] else []) ++ (action.Append (x ∷ rest) ∷ [])))
         pick true = record { allowed = ((omega (arith, above, far, at), in_e), (tt, ((goes_on, low), tt))); count = count; total = omega (arith, after) }
         pick false = record { allowed = ((omega (arith, above, far, at), in_e), ((goes_on, low), tt)); count = count; total = omega (arith, after) }
 
@@ -206,7 +215,8 @@ pub record Takes (d : Durable) (s : Soft) (sent : Append) : Type 0 where
   pub low : list_all (λ (e : Entry). nat_le e.opid.term sent.term) sent.entries ≡ true
   pub whole : tear_in d s sent ≡ None
 
-module _ (ring : Layout) (me : ℕ) (d : Durable) (o s : Soft) (first : List Action) (says : List Say) (sent : Append) (x : Ordered d) (c : Counted d o) (same : s.commit ≡ o.commit) (a : Allowed Orderly d first) (l : (all_done d first).log ≡ d.log)
+module _ (ring : Layout) (me : ℕ) (d : Durable) (o s : Soft) (first : List Action) (says : List Say) (sent : Append) (x : Ordered d) (c : Counted d o)
+    (same : s.commit ≡ o.commit) (a : Allowed Orderly d first) (l : (all_done d first).log ≡ d.log)
     (ap_is : (all_done d first).applied ≡ d.applied) (t : sent.term ≤ (all_done d first).term) (stands : is_leader s.role ≡ false) (m : Takes d o sent) where
   refusing_steady : (p : ℕ) → Steady d (stepped first (reply me sent.leader sent.term false p ∷ []) says s)
   refusing_steady p = record { allowed = a; inside = (let n : length (all_done d first).log ≡ length d.log = ap length l in let i = c.inside in omega (arith, n, i, same)); near = not_leading s.role _ s.peers stands }
@@ -228,7 +238,9 @@ module _ (ring : Layout) (me : ℕ) (d : Durable) (o s : Soft) (first : List Act
       let y : Taking e s.commit last acts = taking ring me d e s.commit sent.prev.position sent.entries rest k kept k.is l (omega (arith, ap_is, above, same)) (omega (arith, inside, same)) low in
       let f : Durable = all_done e acts in
       let ordered : Ordered f = ordered_after e acts y.allowed (ordered_after d first a x) in
-      let fit : commit ≤ length f.log = greater_by (λ (n : ℕ). n ≤ length f.log) s.commit (smaller_of sent.commit last) y.count (let low = (smaller_low sent.commit last).1 in let z = y.total in omega (arith, low, z)) in
+      let least = (smaller_low sent.commit last).1 in
+      let total = y.total in
+      let fit : commit ≤ length f.log = greater_by (λ (n : ℕ). n ≤ length f.log) s.commit (smaller_of sent.commit last) y.count (omega (arith, least, total)) in
       let more : List Action = follow_actions ring me f commit in
       let j : length (all_done d (first ++ (acts ++ more))).log ≡ length f.log = ap (λ (w : Durable). length w.log) (done_join d first (acts ++ more) ∙ done_join e acts more) ∙ ap length (follow_log ring me f commit) in
       record {
@@ -237,7 +249,8 @@ module _ (ring : Layout) (me : ℕ) (d : Durable) (o s : Soft) (first : List Act
         near = not_leading s.role _ s.peers stands;
       }
     where
-      weaker : (es : List Entry) → list_all (λ (w : Entry). nat_le w.opid.term sent.term) es ≡ true → list_all (λ (w : Entry). nat_le w.opid.term (all_done d first).term) es ≡ true
+      weaker : (es : List Entry) → list_all (λ (w : Entry). nat_le w.opid.term sent.term) es ≡ true
+          → list_all (λ (w : Entry). nat_le w.opid.term (all_done d first).term) es ≡ true
       weaker [] is = refl
       weaker (w ∷ es) is =
           let z = both_true (nat_le w.opid.term sent.term) (list_all (λ (w : Entry). nat_le w.opid.term sent.term) es) is in
@@ -253,7 +266,8 @@ module _ (ring : Layout) (me : ℕ) (d : Durable) (o s : Soft) (first : List Act
       go false y true z = accept_steady (grind (arith, nat_tests, y)) (grind (arith, nat_tests, z))
       go false y false z = refusing_steady (sent.prev.position - 1)
 
-follow_steady : (ring : Layout) (me : ℕ) (d : Durable) (s : Soft) (sent : Append) → Ordered d → Counted d s → nat_lt sent.term d.term ≡ false → Takes d s sent → Steady d (follow_append ring me d s sent)
+follow_steady : (ring : Layout) (me : ℕ) (d : Durable) (s : Soft) (sent : Append) → Ordered d → Counted d s → nat_lt sent.term d.term ≡ false
+    → Takes d s sent → Steady d (follow_append ring me d s sent)
 follow_steady ring me d s sent x c new m = go (nat_lt d.term sent.term) refl s.role refl
   where
     go : (b : Bool) → nat_lt d.term sent.term ≡ b → (o : Role) → s.role ≡ o
@@ -264,7 +278,8 @@ follow_steady ring me d s sent x c new m = go (nat_lt d.term sent.term) refl s.r
     go false y Candidate z = match_steady ring me d s (demoted s) [] (unknowns s) sent x c refl tt refl refl (grind (arith, nat_tests, y)) refl m
     go false y Leader z = idle_steady d s c
 
-pub append_steady : (ring : Layout) (me : ℕ) (sent : Append) (d : Durable) (s : Soft) → Ordered d → Counted d s → Chain sent.prev.term sent.prev.position sent.entries → list_all (λ (e : Entry). nat_le e.opid.term sent.term) sent.entries ≡ true
+pub append_steady : (ring : Layout) (me : ℕ) (sent : Append) (d : Durable) (s : Soft) → Ordered d → Counted d s
+    → Chain sent.prev.term sent.prev.position sent.entries → list_all (λ (e : Entry). nat_le e.opid.term sent.term) sent.entries ≡ true
     → Steady d (on_append ring me d s sent)
 unfolding on_append
 append_steady ring me sent d s x c chain low = go (outgrows d sent) (nat_lt sent.term d.term) refl (leads_it d s sent) (tear_in d s sent) refl

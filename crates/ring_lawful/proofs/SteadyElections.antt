@@ -32,11 +32,13 @@ use Rattle.ring_lawful.proofs.SteadyAppend.{Counted, Near, Steady, idle_steady, 
 use Rattle.ring_lawful.proofs.SteadyPeers.{near_first, near_more}
 
 -- ---- stepping down
-pub raise_steady : (t : ℕ) (d : Durable) (s : Soft) (ms : List Message) (says : List Say) → Counted d s → d.term ≤ t → Steady d (stepped (action.SetTerm t ∷ []) ms says (demoted s))
+pub raise_steady : (t : ℕ) (d : Durable) (s : Soft) (ms : List Message) (says : List Say) → Counted d s → d.term ≤ t
+    → Steady d (stepped (action.SetTerm t ∷ []) ms says (demoted s))
 raise_steady t d s ms says c up = record { allowed = (up, tt); inside = c.inside; near = λ bad. absurd (let z : false ≡ true = bad in cc) }
 
 -- ---- a leader's step
-pub advance_steady : (ring : Layout) (me : ℕ) (d : Durable) (s : Soft) (first : List Action) (says : List Say) → Ordered d → Allowed Orderly d first → s.commit ≤ length (all_done d first).log → (is_leader s.role ≡ true → Near (length (all_done d first).log) s.peers)
+pub advance_steady : (ring : Layout) (me : ℕ) (d : Durable) (s : Soft) (first : List Action) (says : List Say) → Ordered d → Allowed Orderly d first
+    → s.commit ≤ length (all_done d first).log → (is_leader s.role ≡ true → Near (length (all_done d first).log) s.peers)
     → Steady d (advance ring me d s first says)
 unfolding advance
 advance_steady ring me d s first says x a inside near =
@@ -58,10 +60,12 @@ own_orderly ring me d p x =
     let here : nat_le d.term d.term ≡ true = grind (arith, nat_tests) in
     ((refl, z, tt), rw here refl)
 
-own_more : (d : Durable) (first : List Action) (e : Entry) → length (all_done d (first ++ (action.Append (e ∷ []) ∷ []))).log ≡ suc (length (all_done d first).log)
+own_more : (d : Durable) (first : List Action) (e : Entry)
+    → length (all_done d (first ++ (action.Append (e ∷ []) ∷ []))).log ≡ suc (length (all_done d first).log)
 own_more d first e = let j = ap (λ (w : Durable). length w.log) (done_join d first (action.Append (e ∷ []) ∷ [])) in let n = length_join (all_done d first).log (e ∷ []) in omega (arith, j, n)
 
-ask_steady : (ring : Layout) (me : ℕ) (d : Durable) (s : Soft) (first : List Action) (says : List Say) (grants : List Grant) (asks : List Message) → Ordered d → Allowed Orderly d first → s.commit ≤ length (all_done d first).log
+ask_steady : (ring : Layout) (me : ℕ) (d : Durable) (s : Soft) (first : List Action) (says : List Say) (grants : List Grant) (asks : List Message)
+    → Ordered d → Allowed Orderly d first → s.commit ≤ length (all_done d first).log
     → Steady d (lead_or_ask ring me d s first says grants asks)
 unfolding lead_or_ask
 ask_steady ring me d s first says grants asks x a inside = go (has_won ring me (all_done d first) grants)
@@ -83,7 +87,8 @@ elect_steady ring me d s x c = go (may_elect ring me d s)
     go true = ask_steady ring me d (demoted s) (stand_actions ring me d s) (unknowns s) _ _ x (omega arith, (tt, tt)) c.inside
     go false = idle_steady d s c
 
-pub reply_steady : (ring : Layout) (me from : ℕ) (reply : VoteReply) (d : Durable) (s : Soft) → Ordered d → Counted d s → Steady d (on_reply ring me d s from reply)
+pub reply_steady : (ring : Layout) (me from : ℕ) (reply : VoteReply) (d : Durable) (s : Soft) → Ordered d → Counted d s
+    → Steady d (on_reply ring me d s from reply)
 unfolding on_reply
 reply_steady ring me from reply d s x c = go s.role
   where
@@ -91,7 +96,8 @@ reply_steady ring me from reply d s x c = go s.role
     count true = ask_steady ring me d s [] [] (s.grants ++ record { voter = from; votes = reply.votes } ∷ []) [] x tt c.inside
     count false = idle_steady d s c
 
-    hears : (b : Bool) → nat_lt d.term reply.term ≡ b → Steady d (if b then stepped (action.SetTerm reply.term ∷ []) [] (unknowns s) (demoted s) else count_grant ring me d s from reply)
+    hears : (b : Bool) → nat_lt d.term reply.term ≡ b
+        → Steady d (if b then stepped (action.SetTerm reply.term ∷ []) [] (unknowns s) (demoted s) else count_grant ring me d s from reply)
     hears true is = raise_steady reply.term d s [] (unknowns s) c (grind (arith, nat_tests, is))
     hears false is = count (reply.granted && reply.term == d.term && not (has_granted s.grants from))
 
@@ -123,7 +129,8 @@ vote_plainly d o first v floor p = record {
   near = p.near;
 }
 
-answer_steady : (ring : Layout) (me : ℕ) (d : Durable) (o : Soft) (first : List Action) (says : List Say) (from : ℕ) (asked : RequestVote) → Plainly d o first → Steady d (answer_request ring me d o first says from asked)
+answer_steady : (ring : Layout) (me : ℕ) (d : Durable) (o : Soft) (first : List Action) (says : List Say) (from : ℕ) (asked : RequestVote)
+    → Plainly d o first → Steady d (answer_request ring me d o first says from asked)
 answer_steady ring me d o first says from asked p = go (vote_in d.votes asked.term)
   where
     kept : (c : Bool) → Steady d (if c then granted_now me d o first says from asked else refused_now me o first says from asked.term)

@@ -24,14 +24,16 @@ near_first me next len (m ∷ members) low high = go (m.id == me) refl (near_fir
     go true is rest = rw is rest
     go false is rest = rw is ((omega (arith, low), high), rest)
 
-heard_near : (len : ℕ) (p : Peer) (ok : Bool) (position : ℕ) → position ≤ len → (p.matched < p.next) × (p.next ≤ len + 1) → ((heard_from p ok position).matched < (heard_from p ok position).next) × ((heard_from p ok position).next ≤ len + 1)
+heard_near : (len : ℕ) (p : Peer) (ok : Bool) (position : ℕ) → position ≤ len → (p.matched < p.next) × (p.next ≤ len + 1)
+    → ((heard_from p ok position).matched < (heard_from p ok position).next) × ((heard_from p ok position).next ≤ len + 1)
 heard_near len p ok position in_p n =
     let below = n.1 in
     let one = heard_one p ok position len in_p (n.0, omega (arith, below)) in
     let next = one.1 in
     (one.0, omega (arith, next))
 
-pub near_heard : (len : ℕ) (peers : List Peer) (from : ℕ) (ok : Bool) (position : ℕ) → position ≤ len → Near len peers → Near len (heard_among peers from ok position)
+pub near_heard : (len : ℕ) (peers : List Peer) (from : ℕ) (ok : Bool) (position : ℕ) → position ≤ len → Near len peers
+    → Near len (heard_among peers from ok position)
 near_heard len [] from ok position in_p n = tt
 near_heard len (p ∷ peers) from ok position in_p n = go (p.node == from) refl (near_heard len peers from ok position in_p n.1)
   where

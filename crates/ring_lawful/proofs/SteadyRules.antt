@@ -56,7 +56,8 @@ ack_steady ring me from answer d s x c = go (nat_lt d.term answer.term) refl (co
         (λ is. near_heard (length d.log) s.peers from answer.ok answer.position (within d s answer z) (c.near is))
     go false y false z = idle_steady d s c
 
-answered_steady : (ring : Layout) (me from : ℕ) (answer : AppendReply) (d : Durable) (s : Soft) → Ordered d → Counted d s → Steady d (on_answer ring me d s from answer)
+answered_steady : (ring : Layout) (me from : ℕ) (answer : AppendReply) (d : Durable) (s : Soft) → Ordered d → Counted d s
+    → Steady d (on_answer ring me d s from answer)
 unfolding on_answer
 answered_steady ring me from answer d s x c = go (counts d s answer && answer.ok)
   where
@@ -67,7 +68,8 @@ answered_steady ring me from answer d s x c = go (counts d s answer && answer.ok
     go true = record { allowed = b.allowed; inside = b.inside; near = b.near }
     go false = b
 
-write_steady : (ring : Layout) (me client : ℕ) (changes : List Change) (d : Durable) (s : Soft) → Ordered d → Counted d s → Steady d (write ring me d s client changes)
+write_steady : (ring : Layout) (me client : ℕ) (changes : List Change) (d : Durable) (s : Soft) → Ordered d → Counted d s
+    → Steady d (write ring me d s client changes)
 unfolding write
 write_steady ring me client changes d s x c = go (write_refusal ring me d s changes)
   where
@@ -137,7 +139,8 @@ asked_steady ring me from sent d s c = go (sent.term == d.term && votes ring me)
     go true = quiet_steady d s s _ [] c refl refl refl
     go false = idle_steady d s c
 
-count_steady : (ring : Layout) (me from : ℕ) (answer : MockReply) (d : Durable) (s : Soft) (leader : ℕ) (asked : Opid) (passed failed : List ℕ) → Counted d s → Steady d (count_answer ring me d s from answer leader asked passed failed)
+count_steady : (ring : Layout) (me from : ℕ) (answer : MockReply) (d : Durable) (s : Soft) (leader : ℕ) (asked : Opid) (passed failed : List ℕ) → Counted d s
+    → Steady d (count_answer ring me d s from answer leader asked passed failed)
 count_steady ring me from answer d s leader asked passed failed c = go (is_listed passed from || is_listed failed from) answer.ok
   where
     with_steady : (more_passed more_failed : List ℕ) → Steady d (with_answer ring me d s leader answer.round asked passed failed more_passed more_failed)
@@ -149,7 +152,8 @@ count_steady ring me from answer d s leader asked passed failed c = go (is_liste
     go false true = with_steady (passed ++ from ∷ []) failed
     go false false = with_steady passed (failed ++ from ∷ [])
 
-heard_steady : (ring : Layout) (me from : ℕ) (answer : MockReply) (d : Durable) (s : Soft) (m : Mock) → Counted d s → Steady d (mock_hears ring me d s from answer m)
+heard_steady : (ring : Layout) (me from : ℕ) (answer : MockReply) (d : Durable) (s : Soft) (m : Mock) → Counted d s
+    → Steady d (mock_hears ring me d s from answer m)
 heard_steady ring me from answer d s mock.Off c = idle_steady d s c
 heard_steady ring me from answer d s (mock.On leader round asked passed failed) c = go (answer.term == d.term && answer.round == round)
   where

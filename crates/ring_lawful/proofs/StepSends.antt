@@ -30,7 +30,8 @@ use Rattle.ring_lawful.proofs.SteadyAppend.{Near}
 use Rattle.ring_lawful.proofs.EachStep.{after_size, sized, tells}
 
 -- ---- what it sends
-sends_body : (ring : Layout) (me from : ℕ) (d : Durable) (s : Soft) (b : Body) → Tells ring d s → Sized ring (all_done d (body_step ring me d s from b).plan.actions) → asks_proxy_body b ≡ false → BodyIsNear ring.schema b
+sends_body : (ring : Layout) (me from : ℕ) (d : Durable) (s : Soft) (b : Body) → Tells ring d s
+    → Sized ring (all_done d (body_step ring me d s from b).plan.actions) → asks_proxy_body b ≡ false → BodyIsNear ring.schema b
     → AllWell ring.schema (body_step ring me d s from b).plan.messages
 sends_body ring me from d s (body.RequestVote asked) t z other g = request_well ring me from asked d s t.sized.term z g.0
 sends_body ring me from d s (body.VoteReply reply) t z other g = reply_well ring me from reply d s
@@ -50,13 +51,15 @@ sends_body ring me from d s (body.ClientTransfer target) t z other g = transfer_
 sends_body ring me from d s body.ClientCancel t z other g = cancel_well ring.schema from s
 sends_body ring me from d s (body.ClientReply what) t z other g = tt
 
-sends : (ring : Layout) (me : ℕ) (d : Durable) (s : Soft) (i : Input) → Tells ring d s → (is_leader s.role ≡ true → Near (length d.log) s.peers) → Sized ring (all_done d (step ring me d s i).plan.actions) → asks_proxy i ≡ false → IsGood ring i
+sends : (ring : Layout) (me : ℕ) (d : Durable) (s : Soft) (i : Input) → Tells ring d s → (is_leader s.role ≡ true → Near (length d.log) s.peers)
+    → Sized ring (all_done d (step ring me d s i).plan.actions) → asks_proxy i ≡ false → IsGood ring i
     → AllWell ring.schema (step ring me d s i).plan.messages
 sends ring me d s input.Elect t near z other g = elect_well ring me d s t
 sends ring me d s input.Beat t near z other g = beat_well ring me d s t near
 sends ring me d s (input.Deliver m) t near z other g = go (is_foreign ring me m) z
   where
-    go : (b : Bool) → Sized ring (all_done d (if b then idle s else body_step ring me d s m.from m.body).plan.actions) → AllWell ring.schema (if b then idle s else body_step ring me d s m.from m.body).plan.messages
+    go : (b : Bool) → Sized ring (all_done d (if b then idle s else body_step ring me d s m.from m.body).plan.actions)
+        → AllWell ring.schema (if b then idle s else body_step ring me d s m.from m.body).plan.messages
     go true z = tt
     go false z = sends_body ring me m.from d s m.body t z other g
 sends ring me d s (input.Write client changes) t near z other g = write_well ring me client changes d s
@@ -74,11 +77,13 @@ near_message schema [] m x c = absurd (omega (arith, c.1))
 near_message schema (y ∷ ms) m x (zero, lt, is) = subst (IsNearlyWellFormed schema) (let z : y ≡ m = cc in z) x.0
 near_message schema (y ∷ ms) m x (suc k, lt, is) = near_message schema ms m x.1 (k, omega arith, is)
 
-relay_near : (ring : Layout) (me from : ℕ) (sent : ProxyAppend) (d : Durable) (s : Soft) → Sized ring d → OpidsFit sent → AllNear ring.schema (relay me d s from sent).plan.messages
+relay_near : (ring : Layout) (me from : ℕ) (sent : ProxyAppend) (d : Durable) (s : Soft) → Sized ring d → OpidsFit sent
+    → AllNear ring.schema (relay me d s from sent).plan.messages
 unfolding relay
 relay_near ring me from sent d s z g = (found_near ring from sent d.log (found_fits ring d.log sent.opids z.entries) g, tt)
 
-asked_near : (ring : Layout) (me from : ℕ) (d : Durable) (s : Soft) (b : Body) → Sized ring d → asks_proxy_body b ≡ true → BodyIsNear ring.schema b → AllNear ring.schema (body_step ring me d s from b).plan.messages
+asked_near : (ring : Layout) (me from : ℕ) (d : Durable) (s : Soft) (b : Body) → Sized ring d → asks_proxy_body b ≡ true → BodyIsNear ring.schema b
+    → AllNear ring.schema (body_step ring me d s from b).plan.messages
 asked_near ring me from d s (body.ProxyAppend sent) z asks g = relay_near ring me from sent d s z g
 asked_near ring me from d s (body.RequestVote asked) z asks g = absurd (let w : false ≡ true = asks in cc)
 asked_near ring me from d s (body.VoteReply reply) z asks g = absurd (let w : false ≡ true = asks in cc)
@@ -95,7 +100,8 @@ asked_near ring me from d s (body.ClientTransfer target) z asks g = absurd (let 
 asked_near ring me from d s body.ClientCancel z asks g = absurd (let w : false ≡ true = asks in cc)
 asked_near ring me from d s (body.ClientReply what) z asks g = absurd (let w : false ≡ true = asks in cc)
 
-given_near : (ring : Layout) (me : ℕ) (d : Durable) (s : Soft) (i : Input) → Sized ring d → asks_proxy i ≡ true → IsGood ring i → AllNear ring.schema (step ring me d s i).plan.messages
+given_near : (ring : Layout) (me : ℕ) (d : Durable) (s : Soft) (i : Input) → Sized ring d → asks_proxy i ≡ true → IsGood ring i
+    → AllNear ring.schema (step ring me d s i).plan.messages
 given_near ring me d s (input.Deliver m) z asks g = go (is_foreign ring me m)
   where
     go : (b : Bool) → AllNear ring.schema (if b then idle s else body_step ring me d s m.from m.body).plan.messages

@@ -37,7 +37,8 @@ rows_join : (schema : Schema) (T : Tables) (a b : List Entry) → rows_from sche
 rows_join schema T [] b = refl
 rows_join schema T (e ∷ a) b = rows_join schema (after_payload schema T e.payload) a b
 
-valid_push : (schema : Schema) (T : Tables) (l : List Entry) (e : Entry) → is_valid_from schema T l ≡ true → payload_is_accepted schema (rows_from schema T l) e.payload ≡ true → is_valid_from schema T (l ++ e ∷ []) ≡ true
+valid_push : (schema : Schema) (T : Tables) (l : List Entry) (e : Entry) → is_valid_from schema T l ≡ true
+    → payload_is_accepted schema (rows_from schema T l) e.payload ≡ true → is_valid_from schema T (l ++ e ∷ []) ≡ true
 valid_push schema T [] e x y = rw y refl
 valid_push schema T (f ∷ l) e x y =
     let z = both_true (payload_is_accepted schema T f.payload) (is_valid_from schema (after_payload schema T f.payload) l) x in
@@ -53,7 +54,8 @@ valid_cut schema T (suc n) (f ∷ l) x =
     rw here (valid_cut schema (after_payload schema T f.payload) n l z.1)
 
 -- changes that the rows of a beginning accept, and of which no later transaction writes a key, are accepted by the rows of the whole list
-pub accepted_later : (schema : Schema) (l : List Entry) (a : ℕ) (changes : List Change) → check schema (rows schema (take a l)) changes ≡ None → list_any (is_held (pairs_in (drop a l))) changes ≡ false
+pub accepted_later : (schema : Schema) (l : List Entry) (a : ℕ) (changes : List Change) → check schema (rows schema (take a l)) changes ≡ None
+    → list_any (is_held (pairs_in (drop a l))) changes ≡ false
     → check schema (rows schema l) changes ≡ None
 unfolding rows
 accepted_later schema l a changes is free =
@@ -79,7 +81,8 @@ valid_plain schema l e none x = valid_push schema (empty_tables schema) l e x (g
     go payload.Rotate is = rw is refl
     go (payload.Txn t) is = absurd (let u = rw is at none in cc)
 
-pub valid_write : (schema : Schema) (l : List Entry) (a : ℕ) (e : Entry) (t : Txn) → e.payload ≡ payload.Txn t → is_valid schema l ≡ true → check schema (rows schema (take a l)) t.changes ≡ None
+pub valid_write : (schema : Schema) (l : List Entry) (a : ℕ) (e : Entry) (t : Txn) → e.payload ≡ payload.Txn t → is_valid schema l ≡ true
+    → check schema (rows schema (take a l)) t.changes ≡ None
     → list_any (is_held (pairs_in (drop a l))) t.changes ≡ false → is_valid schema (l ++ e ∷ []) ≡ true
 unfolding is_valid rows
 valid_write schema l a e t is x ok free =

@@ -72,7 +72,8 @@ prepare_path ring id h d pairs (Some e) = go (pair_of e) (is_prepared pairs e.op
     go (Some p) true = no_actions ring id h d
     go (Some p) false = engine_action ring id h d (action.Prepare p) (record { term = refl; votes = refl; log = refl; applied = refl })
 
-pub engine_path : (ring : Layout) (id : ℕ) (h : History) (n a : ℕ) (d : Durable) (l : List Entry) (pairs : List Pair) → d.log ≡ l → d.applied ≤ a → IsSealed ring h d.term (a + n) l → MayReach h id d.term (a + n)
+pub engine_path : (ring : Layout) (id : ℕ) (h : History) (n a : ℕ) (d : Durable) (l : List Entry) (pairs : List Pair) → d.log ≡ l → d.applied ≤ a
+    → IsSealed ring h d.term (a + n) l → MayReach h id d.term (a + n)
     → EnginePath ring id h d (engine_actions l pairs a n) (a + n)
 engine_path ring id h zero a d l pairs is le s may = record { path = Ends; quiet = refl; after = record { term = refl; votes = refl; log = refl; applied = omega arith } }
 engine_path ring id h (suc n) a d l pairs is le s may =
@@ -92,7 +93,8 @@ engine_path ring id h (suc n) a d l pairs is le s may =
           (record { term = ih.after.term ∙ same.term; votes = ih.after.votes ∙ same.votes; log = ih.after.log ∙ same.log; applied = omega (arith, ih.after.applied) });
     }
 
-pub follow_path : (ring : Layout) (me id : ℕ) (h : History) (d : Durable) (c : ℕ) → d.applied ≤ c → IsSealed ring h d.term c d.log → MayReach h id d.term c → EnginePath ring id h d (follow_actions ring me d c) c
+pub follow_path : (ring : Layout) (me id : ℕ) (h : History) (d : Durable) (c : ℕ) → d.applied ≤ c → IsSealed ring h d.term c d.log → MayReach h id d.term c
+    → EnginePath ring id h d (follow_actions ring me d c) c
 follow_path ring me id h d c le s may = go (runs_engine ring me) refl
   where
     go : (b : Bool) → runs_engine ring me ≡ b → EnginePath ring id h d (follow_actions ring me d c) c
@@ -114,7 +116,8 @@ greatest_is : (test : ℕ → Bool) (floor n : ℕ) → IsGreatest test floor n 
 greatest_is test floor zero = At_floor refl
 greatest_is test floor (suc n) = go (nat_le (suc n) floor) refl (test (suc n)) refl (greatest_is test floor n)
   where
-    go : (a : Bool) → nat_le (suc n) floor ≡ a → (b : Bool) → test (suc n) ≡ b → IsGreatest test floor n (greatest test floor n) → IsGreatest test floor (suc n) (greatest test floor (suc n))
+    go : (a : Bool) → nat_le (suc n) floor ≡ a → (b : Bool) → test (suc n) ≡ b → IsGreatest test floor n (greatest test floor n)
+        → IsGreatest test floor (suc n) (greatest test floor (suc n))
     go true x b y ih = rw x (At_floor refl)
     go false x true y ih = rw (x, y) (At_found (grind (arith, nat_tests, x)) (omega arith) y)
     go false x false y ih = rw (x, y) (greatest_more test floor n (greatest test floor n) ih)
@@ -126,18 +129,23 @@ holder_is p (x ∷ peers) v c = go (nat_le p x.matched) refl c (holder_is p peer
     more : ((y : Peer) × Contains peers y × (y.node ≡ v) × (p ≤ y.matched)) → (y : Peer) × Contains (x ∷ peers) y × (y.node ≡ v) × (p ≤ y.matched)
     more y = (y.0, (suc y.1.0, omega (arith, y.1.1), y.1.2), y.2, y.3)
 
-    go : (b : Bool) → nat_le p x.matched ≡ b → Contains (holders p (x ∷ peers)) v → (Contains (holders p peers) v → (y : Peer) × Contains peers y × (y.node ≡ v) × (p ≤ y.matched)) → (y : Peer) × Contains (x ∷ peers) y × (y.node ≡ v) × (p ≤ y.matched)
+    go : (b : Bool) → nat_le p x.matched ≡ b → Contains (holders p (x ∷ peers)) v
+        → (Contains (holders p peers) v → (y : Peer) × Contains peers y × (y.node ≡ v) × (p ≤ y.matched))
+        → (y : Peer) × Contains (x ∷ peers) y × (y.node ≡ v) × (p ≤ y.matched)
     go true is c ih = let d = rw is at c in elim (cons_cases x.node (holders p peers) v d) [ inl here ↦ (x, (zero, omega arith, refl), here, grind (arith, nat_tests, is)) | inr there ↦ more (ih there) ]
     go false is c ih = let d = rw is at c in more (ih d)
 
-count_sealed : (ring : Layout) (h : History) (id : ℕ) (d : Durable) (s : Soft) → IsHistory ring h → IsNode ring h id d → IsLeader h id d s → IsSealed ring h d.term s.commit d.log
+count_sealed : (ring : Layout) (h : History) (id : ℕ) (d : Durable) (s : Soft) → IsHistory ring h → IsNode ring h id d → IsLeader h id d s
+    → IsSealed ring h d.term s.commit d.log
     → IsSealed ring h d.term (commit_count ring id d.term d.log s) d.log × (s.commit ≤ commit_count ring id d.term d.log s)
 count_sealed ring h id d s k n x sealed = go (commit_count ring id d.term d.log s) (greatest_is (may_commit ring id d.term d.log s.peers) s.commit (length d.log))
   where
-    pass : (p : ℕ) → may_commit ring id d.term d.log s.peers p ≡ true → (term_at d.log p ≡ d.term) × (commits ring (region_of ring id) (id ∷ holders p s.peers) ≡ true)
+    pass : (p : ℕ) → may_commit ring id d.term d.log s.peers p ≡ true
+        → (term_at d.log p ≡ d.term) × (commits ring (region_of ring id) (id ∷ holders p s.peers) ≡ true)
     pass p t = split (term_at d.log p == d.term) refl t
       where
-        split : (b : Bool) → (term_at d.log p == d.term) ≡ b → may_commit ring id d.term d.log s.peers p ≡ true → (term_at d.log p ≡ d.term) × (commits ring (region_of ring id) (id ∷ holders p s.peers) ≡ true)
+        split : (b : Bool) → (term_at d.log p == d.term) ≡ b → may_commit ring id d.term d.log s.peers p ≡ true
+            → (term_at d.log p ≡ d.term) × (commits ring (region_of ring id) (id ∷ holders p s.peers) ≡ true)
         split true is t = (grind (arith, nat_tests, is), let u = rw is at t in u)
         split false is t = absurd (let u = rw is at t in let z : false ≡ true = u in cc)
 
@@ -150,7 +158,8 @@ count_sealed ring h id d s k n x sealed = go (commit_count ring id d.term d.log 
           omega arith,
         )
 
-pub leader_at : (h : History) (id : ℕ) (d e : Durable) (s o : Soft) → e.term ≡ d.term → length d.log ≤ length e.log → o.peers ≡ s.peers → IsLeader h id d s → IsLeader h id e o
+pub leader_at : (h : History) (id : ℕ) (d e : Durable) (s o : Soft) → e.term ≡ d.term → length d.log ≤ length e.log → o.peers ≡ s.peers → IsLeader h id d s
+    → IsLeader h id e o
 leader_at h id d e s o t more p x = record {
   election = x.election;
   led = x.led;
@@ -166,15 +175,18 @@ pub data Rising (ring : Layout) (id : ℕ) (h m : History) (d : Durable) (o s : 
   Led_on : is_leader o.role ≡ true → elected ring id h m d first p ≡ [] → Rising ring id h m d o s first p
   Led_new : is_leader o.role ≡ false → IsHeld ring id h m d first s.grants p → Rising ring id h m d o s first p
 
-rising_holds : (ring : Layout) (id : ℕ) (h m : History) (d : Durable) (o s t : Soft) (first more : List Action) (p : Path ring id h d first m) (q : Path ring id m (all_done d first) more m)
+rising_holds : (ring : Layout) (id : ℕ) (h m : History) (d : Durable) (o s t : Soft) (first more : List Action) (p : Path ring id h d first m)
+    (q : Path ring id m (all_done d first) more m)
     → is_leader t.role ≡ true → t.grants ≡ s.grants → elected ring id m m (all_done d first) more q ≡ [] → Rising ring id h m d o s first p
     → Holding ring id h m d o t (first ++ more) (path_join ring id h m m d first more p q)
 rising_holds ring id h m d o s t first more p q leads same quiet (Led_on led none) = Led_before led (quiet_join ring id h m m d first more p q none quiet)
 rising_holds ring id h m d o s t first more p q leads same quiet (Led_new was held) =
     Leads_now was leads (subst (λ (g : List Grant). IsHeld ring id h m d (first ++ more) g (path_join ring id h m m d first more p q)) (sym same) (held_join ring id h m m d first more s.grants p q held quiet))
 
-pub advance_row : (ring : Layout) (h m : History) (id : ℕ) (d : Durable) (o s : Soft) (first : List Action) (says : List Say) (p : Path ring id h d first m) → IsHistory ring m → IsNode ring m id (all_done d first)
-    → s.role ≡ Leader → IsLeader m id (all_done d first) s → IsSealed ring m (all_done d first).term s.commit (all_done d first).log → (all_done d first).applied ≤ s.commit
+pub advance_row : (ring : Layout) (h m : History) (id : ℕ) (d : Durable) (o s : Soft) (first : List Action) (says : List Say) (p : Path ring id h d first m)
+    → IsHistory ring m → IsNode ring m id (all_done d first)
+    → s.role ≡ Leader → IsLeader m id (all_done d first) s → IsSealed ring m (all_done d first).term s.commit (all_done d first).log
+    → (all_done d first).applied ≤ s.commit
     → Rising ring id h m d o s first p → IsRow ring h id d o (advance ring id d s first says)
 unfolding advance
 advance_row ring h m id d o s first says p k n role x sealed le rising =

@@ -30,7 +30,8 @@ take_own zero l = refl
 take_own (suc n) [] = refl
 take_own (suc n) (x ∷ l) = ap (λ w. x ∷ w) (take_own n l)
 
-beat_stretch : (ring : Layout) (h : History) (id n q : ℕ) (d : Durable) (s : Soft) → IsHistory ring h → IsNode ring h id d → IsRunning ring h id d s → s.role ≡ Leader → q ≤ length d.log
+beat_stretch : (ring : Layout) (h : History) (id n q : ℕ) (d : Durable) (s : Soft) → IsHistory ring h → IsNode ring h id d → IsRunning ring h id d s
+    → s.role ≡ Leader → q ≤ length d.log
     → IsStretch ring h d.term id (record { term = term_at d.log q; position = q }) s.commit (length (take n (drop q d.log)))
 beat_stretch ring h id n q d s k node r role le =
     let l : IsLeader h id d s = subst (λ (o : Role). HasRole h id d s o) role r.role in
@@ -47,7 +48,8 @@ beat_stretch ring h id n q d s k node r role le =
     }
 
 -- the entries to one member, sent as they are
-direct_sent : (ring : Layout) (h : History) (id to n q : ℕ) (d : Durable) (s : Soft) → IsHistory ring h → IsNode ring h id d → IsRunning ring h id d s → s.role ≡ Leader → q ≤ length d.log
+direct_sent : (ring : Layout) (h : History) (id to n q : ℕ) (d : Durable) (s : Soft) → IsHistory ring h → IsNode ring h id d → IsRunning ring h id d s
+    → s.role ≡ Leader → q ≤ length d.log
     → IsSent ring h id to (body.Append (record { term = d.term; leader = id; prev = record { term = term_at d.log q; position = q }; commit = s.commit; entries = take n (drop q d.log) }))
 direct_sent ring h id to n q d s k node r role le =
     let l : IsLeader h id d s = subst (λ (o : Role). HasRole h id d s o) role r.role in
@@ -61,7 +63,8 @@ opids_length [] = refl
 opids_length (x ∷ l) = ap suc (opids_length l)
 
 -- their opids alone, sent to a proxy
-proxied_sent : (ring : Layout) (h : History) (id to target n q : ℕ) (d : Durable) (s : Soft) → IsHistory ring h → IsNode ring h id d → IsRunning ring h id d s → s.role ≡ Leader → q ≤ length d.log
+proxied_sent : (ring : Layout) (h : History) (id to target n q : ℕ) (d : Durable) (s : Soft) → IsHistory ring h → IsNode ring h id d
+    → IsRunning ring h id d s → s.role ≡ Leader → q ≤ length d.log
     → IsSent ring h id to (body.ProxyAppend (record { term = d.term; target = target; prev = record { term = term_at d.log q; position = q }; commit = s.commit; opids = opids_of (take n (drop q d.log)) }))
 proxied_sent ring h id to target n q d s k node r role le =
     let same : length (opids_of (take n (drop q d.log))) ≡ length (take n (drop q d.log)) = opids_length (take n (drop q d.log)) in
@@ -70,7 +73,8 @@ proxied_sent ring h id to target n q d s k node r role le =
       ap (λ (c : ℕ). opids_of (take c (drop q (h.book d.term)))) same ∙ ap opids_of x.1,
     )
 
-beat_one : (ring : Layout) (h : History) (id : ℕ) (d : Durable) (s : Soft) (p : Peer) → IsHistory ring h → IsNode ring h id d → IsRunning ring h id d s → s.role ≡ Leader → p.next ≤ suc (length d.log)
+beat_one : (ring : Layout) (h : History) (id : ℕ) (d : Durable) (s : Soft) (p : Peer) → IsHistory ring h → IsNode ring h id d → IsRunning ring h id d s
+    → s.role ≡ Leader → p.next ≤ suc (length d.log)
     → IsSayable ring h id (beat_to ring id d s p)
 beat_one ring h id d s p k n r role le = go (is_proxied ring id s.peers p.node)
   where
@@ -82,7 +86,8 @@ beat_one ring h id d s p k n r role le = go (is_proxied ring id s.peers p.node)
     go true = record { sent = proxied_sent ring h id (proxy_id ring p.node) p.node (batch_length ring.schema batch_limit group_limit (drop (p.next - 1) d.log)) (p.next - 1) d s k n r role (omega arith); from = refl; never = λ u v bad. absurd cc }
     go false = record { sent = direct_sent ring h id p.node (batch_length ring.schema batch_limit group_limit (drop (p.next - 1) d.log)) (p.next - 1) d s k n r role (omega arith); from = refl; never = λ u v bad. absurd cc }
 
-pub beat_row : (ring : Layout) (h : History) (id : ℕ) (d : Durable) (s : Soft) → IsHistory ring h → IsNode ring h id d → IsRunning ring h id d s → IsRow ring h id d s (beat ring id d s)
+pub beat_row : (ring : Layout) (h : History) (id : ℕ) (d : Durable) (s : Soft) → IsHistory ring h → IsNode ring h id d → IsRunning ring h id d s
+    → IsRow ring h id d s (beat ring id d s)
 unfolding beat
 beat_row ring h id d s k n r = go s.role refl
   where

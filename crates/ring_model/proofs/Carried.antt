@@ -52,8 +52,10 @@ abbrev actor : Option (ℕ × Task) → ℕ
 actor None = 0
 actor (Some a) = a.0
 
-pub by_turn : (ring : Layout) (w v : WorldState) (h : History) (id : ℕ) (task : Task) (held : List Election) (acts : List Action) (x : TurnedTo ring w v h id held acts) → (HoldsTold ring w h → HoldsTold ring v x.after)
-    → ((l : List Entry) (n : ℕ) → l ≡ (all_done (w.nodes id).durable (take n acts)).log → OnWay ring w (Some (id, task)) l) → Carried ring w v h held (Some (id, task))
+pub by_turn : (ring : Layout) (w v : WorldState) (h : History) (id : ℕ) (task : Task) (held : List Election) (acts : List Action)
+    (x : TurnedTo ring w v h id held acts) → (HoldsTold ring w h → HoldsTold ring v x.after)
+    → ((l : List Entry) (n : ℕ) → l ≡ (all_done (w.nodes id).durable (take n acts)).log → OnWay ring w (Some (id, task)) l)
+    → Carried ring w v h held (Some (id, task))
 by_turn ring w v h id task held acts x told way = record {
   joined = record {
     after = x.after;
@@ -86,11 +88,13 @@ take_twice (suc n) zero actions = (0, refl)
 take_twice (suc n) (suc p) [] = (0, refl)
 take_twice (suc n) (suc p) (a ∷ actions) = let x = take_twice n p actions in (suc x.0, ap (λ (rest : List Action). a ∷ rest) x.1)
 
-pub carried_join : (ring : Layout) (w v z : WorldState) (h : History) (a b : List Election) (acted : Option (ℕ × Task)) (x : Carried ring w v h a acted) → Joined ring v z x.joined.after b → Joined ring w z h (a ++ b)
+pub carried_join : (ring : Layout) (w v z : WorldState) (h : History) (a b : List Election) (acted : Option (ℕ × Task)) (x : Carried ring w v h a acted)
+    → Joined ring v z x.joined.after b → Joined ring w z h (a ++ b)
 carried_join ring w v z h a b acted x y = record {
   after = y.after;
   world = y.world;
-  chosen = agree_trans (length w.chosen) w.chosen v.chosen z.chosen x.joined.chosen (agree_less (length w.chosen) (length v.chosen) v.chosen z.chosen x.joined.chosen.right y.chosen);
+  chosen = agree_trans (length w.chosen) w.chosen v.chosen z.chosen x.joined.chosen
+      (agree_less (length w.chosen) (length v.chosen) v.chosen z.chosen x.joined.chosen.right y.chosen);
   led = λ e in_e. y.led e (x.joined.led e in_e);
   sealed = λ u c l q. y.sealed u c l (x.joined.sealed u c l q);
   elections = y.elections ∙ (ap (λ (e : List Election). e ++ b) x.joined.elections ∙ append_assoc h.elections a b);
@@ -98,7 +102,8 @@ carried_join ring w v z h a b acted x y = record {
 }
 
 -- where nodes, messages and the chosen sequence stay
-pub same_world : (ring : Layout) (w v : WorldState) (h : History) → v.nodes ≡ w.nodes → v.messages ≡ w.messages → v.chosen ≡ w.chosen → IsWorld ring w h → IsWorld ring v h
+pub same_world : (ring : Layout) (w v : WorldState) (h : History) → v.nodes ≡ w.nodes → v.messages ≡ w.messages → v.chosen ≡ w.chosen → IsWorld ring w h
+    → IsWorld ring v h
 same_world ring w v h nodes messages chosen k = record {
   messages = k.messages ∙ sym messages;
   chosen = k.chosen ∙ sym chosen;

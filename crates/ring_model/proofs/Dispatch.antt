@@ -46,7 +46,8 @@ second_other false b is = absurd (let z : true ≡ false = is in cc)
 pub names_other : (ring : Layout) (me from : ℕ) (sent : Append) → is_foreign_body ring me from (body.Append sent) ≡ false → sent.leader ≡ me → ⊥
 names_other ring me from sent is = other_is ring me sent.leader (second_other (is_other ring me from) (is_other ring me sent.leader) is)
 
-body_row : (ring : Layout) (h : History) (m : Message) (id : ℕ) (d : Durable) (s : Soft) (b : Body) → IsHistory ring h → IsNode ring h id d → IsRunning ring h id d s
+body_row : (ring : Layout) (h : History) (m : Message) (id : ℕ) (d : Durable) (s : Soft) (b : Body) → IsHistory ring h → IsNode ring h id d
+    → IsRunning ring h id d s
     → Contains h.messages m → m.to ≡ id → m.body ≡ b → is_foreign_body ring id m.from b ≡ false → IsRow ring h id d s (body_step ring id d s m.from b)
 body_row ring h m id d s (body.RequestVote asked) k n r in_m to is own = request_row ring h id m.from asked d s k n r (subst (λ (b : Body). IsSent ring h m.from m.to b) is (k.sent m in_m))
 body_row ring h m id d s (body.VoteReply reply) k n r in_m to is own =
@@ -66,7 +67,8 @@ body_row ring h m id d s (body.ClientTransfer target) k n r in_m to is own = tra
 body_row ring h m id d s body.ClientCancel k n r in_m to is own = cancel_row ring h id m.from d s k n r
 body_row ring h m id d s (body.ClientReply what) k n r in_m to is own = idle_row ring h id d s r
 
-deliver_row : (ring : Layout) (h : History) (m : Message) (id : ℕ) (d : Durable) (s : Soft) → IsHistory ring h → IsNode ring h id d → IsRunning ring h id d s → Contains h.messages m → m.to ≡ id → IsRow ring h id d s (deliver ring id d s m)
+deliver_row : (ring : Layout) (h : History) (m : Message) (id : ℕ) (d : Durable) (s : Soft) → IsHistory ring h → IsNode ring h id d → IsRunning ring h id d s
+    → Contains h.messages m → m.to ≡ id → IsRow ring h id d s (deliver ring id d s m)
 deliver_row ring h m id d s k n r in_m to = go (is_foreign ring id m) refl
   where
     go : (b : Bool) → is_foreign ring id m ≡ b → IsRow ring h id d s (if b then idle s else body_step ring id d s m.from m.body)
@@ -78,7 +80,8 @@ abbrev pub IsGiven : List Message → ℕ → Input → Type 0
 IsGiven messages id (input.Deliver m) = Contains messages m × (m.to ≡ id)
 IsGiven messages id _ = Unit {0}
 
-pub step_row : (ring : Layout) (h : History) (id : ℕ) (d : Durable) (s : Soft) (i : Input) → IsHistory ring h → IsNode ring h id d → IsRunning ring h id d s → IsGiven h.messages id i → IsRow ring h id d s (step ring id d s i)
+pub step_row : (ring : Layout) (h : History) (id : ℕ) (d : Durable) (s : Soft) (i : Input) → IsHistory ring h → IsNode ring h id d → IsRunning ring h id d s
+    → IsGiven h.messages id i → IsRow ring h id d s (step ring id d s i)
 step_row ring h id d s input.Elect k n r given = elect_row ring h id d s k n r
 step_row ring h id d s input.Beat k n r given = beat_row ring h id d s k n r
 step_row ring h id d s (input.Deliver m) k n r given = deliver_row ring h m id d s k n r given.0 given.1
@@ -88,7 +91,8 @@ step_row ring h id d s (input.Transfer client target) k n r given = transfer_row
 step_row ring h id d s (input.Cancel client) k n r given = cancel_row ring h id client d s k n r
 
 -- ---- never torn
-body_whole : (ring : Layout) (h : History) (m : Message) (id : ℕ) (d : Durable) (s : Soft) (b : Body) → IsHistory ring h → IsNode ring h id d → IsRunning ring h id d s
+body_whole : (ring : Layout) (h : History) (m : Message) (id : ℕ) (d : Durable) (s : Soft) (b : Body) → IsHistory ring h → IsNode ring h id d
+    → IsRunning ring h id d s
     → Contains h.messages m → m.body ≡ b → is_foreign_body ring id m.from b ≡ false → body_tear d s b ≡ None
 body_whole ring h m id d s (body.Append sent) k n r in_m is own = append_tears_not ring h id sent d s k n r (subst (λ (b : Body). IsSent ring h m.from m.to b) is (k.sent m in_m)) (names_other ring id m.from sent own)
 body_whole ring h m id d s (body.RequestVote asked) k n r in_m is own = refl
@@ -106,7 +110,8 @@ body_whole ring h m id d s (body.ClientTransfer target) k n r in_m is own = refl
 body_whole ring h m id d s body.ClientCancel k n r in_m is own = refl
 body_whole ring h m id d s (body.ClientReply what) k n r in_m is own = refl
 
-pub step_whole : (ring : Layout) (h : History) (id : ℕ) (d : Durable) (s : Soft) (i : Input) → IsHistory ring h → IsNode ring h id d → IsRunning ring h id d s → IsGiven h.messages id i → tear_of ring id d s i ≡ None
+pub step_whole : (ring : Layout) (h : History) (id : ℕ) (d : Durable) (s : Soft) (i : Input) → IsHistory ring h → IsNode ring h id d
+    → IsRunning ring h id d s → IsGiven h.messages id i → tear_of ring id d s i ≡ None
 step_whole ring h id d s (input.Deliver m) k n r given = go (is_foreign ring id m) refl
   where
     go : (b : Bool) → is_foreign ring id m ≡ b → (if b then None else body_tear d s m.body) ≡ None

@@ -64,9 +64,11 @@ seal_longer ring id h g u c l r x s = elim (grow_sealed ring id h g x u u c l (o
 ]
 
 -- a candidate whose grants win leads, after the actions that come first
-lead_row : (ring : Layout) (h m : History) (id : ℕ) (d : Durable) (o s : Soft) (first : List Action) (says : List Say) (grants : List Grant) (p : Path ring id h d first m) → IsBefore ring id h m d first p → is_leader o.role ≡ false
+lead_row : (ring : Layout) (h m : History) (id : ℕ) (d : Durable) (o s : Soft) (first : List Action) (says : List Say) (grants : List Grant)
+    (p : Path ring id h d first m) → IsBefore ring id h m d first p → is_leader o.role ≡ false
     → IsHistory ring m → IsNode ring m id (all_done d first) → IsCandidate m id (all_done d first) grants → has_won ring id (all_done d first) grants ≡ true
-    → IsSealed ring m (all_done d first).term s.commit (all_done d first).log → (all_done d first).applied ≤ s.commit → IsRow ring h id d o (lead ring id d s first says grants)
+    → IsSealed ring m (all_done d first).term s.commit (all_done d first).log → (all_done d first).applied ≤ s.commit
+    → IsRow ring h id d o (lead ring id d s first says grants)
 lead_row ring h m id d o s first says grants p before was k n x won sealed le =
     let e : Durable = all_done d first in
     let el : Election = record { term = e.term; node = id; base = e.log; grants = grants } in
@@ -95,15 +97,18 @@ lead_row ring h m id d o s first says grants p before was k n x won sealed le =
     (Led_new was (before_join ring id h m led d first (action.Append (noop ∷ []) ∷ []) grants p (Goes_on (Leads el noop refl may refl) Ends) before (refl, refl)))
 
 -- a candidate with these grants: it leads, or asks
-pub ask_row : (ring : Layout) (h m g : History) (id : ℕ) (d : Durable) (o s : Soft) (first : List Action) (says : List Say) (grants : List Grant) (asks : List Message) (p : Path ring id h d first m) → IsBefore ring id h m d first p
+pub ask_row : (ring : Layout) (h m g : History) (id : ℕ) (d : Durable) (o s : Soft) (first : List Action) (says : List Say) (grants : List Grant)
+    (asks : List Message) (p : Path ring id h d first m) → IsBefore ring id h m d first p
     → is_leader o.role ≡ false → IsHistory ring m → IsNode ring m id (all_done d first) → IsCandidate m id (all_done d first) grants
-    → Sends ring id (all_done d first) m asks g → IsCandidate g id (all_done d first) grants → IsSealed ring m (all_done d first).term s.commit (all_done d first).log → IsSealed ring g (all_done d first).term s.commit (all_done d first).log
+    → Sends ring id (all_done d first) m asks g → IsCandidate g id (all_done d first) grants
+    → IsSealed ring m (all_done d first).term s.commit (all_done d first).log → IsSealed ring g (all_done d first).term s.commit (all_done d first).log
     → (all_done d first).applied ≤ s.commit → s.commit ≤ length m.chosen → IsRow ring h id d o (lead_or_ask ring id d s first says grants asks)
 unfolding lead_or_ask
 ask_row ring h m g id d o s first says grants asks p before was k n x sends y sealed sealed_after le low =
     go (has_won ring id (all_done d first) grants) refl
   where
-    go : (b : Bool) → has_won ring id (all_done d first) grants ≡ b → IsRow ring h id d o (if b then lead ring id d s first says grants else stepped first asks says (record s { role = Candidate; grants = grants }))
+    go : (b : Bool) → has_won ring id (all_done d first) grants ≡ b
+        → IsRow ring h id d o (if b then lead ring id d s first says grants else stepped first asks says (record s { role = Candidate; grants = grants }))
     go true is = lead_row ring h m id d o s first says grants p before was k n x is sealed le
     go false is = record { acted = m; path = p; sent = g; sends = sends; role = y; sealed = sealed_after; applied = le; reaches = inl low; holding = Leads_not refl (before_quiet ring id h m d first p before) }
 
@@ -117,14 +122,16 @@ record Asked (ring : Layout) (h : History) (id : ℕ) (d : Durable) (grants : Li
 abbrev request_to : ℕ → ℕ → ℕ → Opid → Message
 request_to id to term asked = message id to (body.RequestVote (record { term = term; last = asked }))
 
-requests_sent : (ring : Layout) (h : History) (id t : ℕ) (q : Opid) (d : Durable) (grants : List Grant) (c : ℕ) (members : List Member) → d.term ≡ t → last d.log ≡ q → IsCandidate h id d grants → IsSealed ring h d.term c d.log
+requests_sent : (ring : Layout) (h : History) (id t : ℕ) (q : Opid) (d : Durable) (grants : List Grant) (c : ℕ) (members : List Member) → d.term ≡ t
+    → last d.log ≡ q → IsCandidate h id d grants → IsSealed ring h d.term c d.log
     → Asked ring h id d grants c (requests id t q members)
 requests_sent ring h id t q d grants c [] is_t is_q x s = record { sent = h; sends = Sent_all; candidate = x; sealed = s }
 requests_sent ring h id t q d grants c (m ∷ members) is_t is_q x s = go (m.id == id) refl (is_voter m.kind) refl (requests_sent ring h id t q d grants c members is_t is_q x s)
     (requests_sent ring (with_message h (request_to id m.id t q)) id t q d grants c members is_t is_q
     (candidate_sent h (request_to id m.id t q) id d grants x) (sealed_sent ring h (request_to id m.id t q) d.term c d.log s))
   where
-    go : (a : Bool) → (m.id == id) ≡ a → (b : Bool) → is_voter m.kind ≡ b → Asked ring h id d grants c (requests id t q members) → Asked ring (with_message h (request_to id m.id t q)) id d grants c (requests id t q members)
+    go : (a : Bool) → (m.id == id) ≡ a → (b : Bool) → is_voter m.kind ≡ b → Asked ring h id d grants c (requests id t q members)
+        → Asked ring (with_message h (request_to id m.id t q)) id d grants c (requests id t q members)
         → Asked ring h id d grants c (requests id t q (m ∷ members))
     go true y b z same more = rw y same
     go false y false z same more = rw (y, z) same
@@ -136,7 +143,8 @@ requests_sent ring h id t q d grants c (m ∷ members) is_t is_q x s = go (m.id 
     })
 
 -- ---- the node stands
-stand_row : (ring : Layout) (h : History) (id : ℕ) (d : Durable) (s : Soft) → is_leader s.role ≡ false → IsHistory ring h → IsNode ring h id d → IsRunning ring h id d s → IsRow ring h id d s (stand ring id d s)
+stand_row : (ring : Layout) (h : History) (id : ℕ) (d : Durable) (s : Soft) → is_leader s.role ≡ false → IsHistory ring h → IsNode ring h id d
+    → IsRunning ring h id d s → IsRow ring h id d s (stand ring id d s)
 stand_row ring h id d s was k n r =
     let t = suc d.term in
     let vote : Vote = new_vote ring t id in
@@ -176,7 +184,8 @@ stand_row ring h id d s was k n r =
 leader_stands_not : (ring : Layout) (id : ℕ) (d : Durable) (s : Soft) → may_elect ring id d s ≡ true → is_leader s.role ≡ false
 leader_stands_not ring id d s may = grind (arith, nat_tests)
 
-pub elect_row : (ring : Layout) (h : History) (id : ℕ) (d : Durable) (s : Soft) → IsHistory ring h → IsNode ring h id d → IsRunning ring h id d s → IsRow ring h id d s (elect ring id d s)
+pub elect_row : (ring : Layout) (h : History) (id : ℕ) (d : Durable) (s : Soft) → IsHistory ring h → IsNode ring h id d → IsRunning ring h id d s
+    → IsRow ring h id d s (elect ring id d s)
 unfolding elect
 elect_row ring h id d s k n r = go (may_elect ring id d s) refl
   where
@@ -185,7 +194,8 @@ elect_row ring h id d s k n r = go (may_elect ring id d s) refl
     go false is = idle_row ring h id d s r
 
 -- the word to elect itself is an election
-pub timeout_row : (ring : Layout) (h : History) (id : ℕ) (d : Durable) (s : Soft) (term : ℕ) → IsHistory ring h → IsNode ring h id d → IsRunning ring h id d s → IsRow ring h id d s (on_timeout ring id d s term)
+pub timeout_row : (ring : Layout) (h : History) (id : ℕ) (d : Durable) (s : Soft) (term : ℕ) → IsHistory ring h → IsNode ring h id d
+    → IsRunning ring h id d s → IsRow ring h id d s (on_timeout ring id d s term)
 unfolding on_timeout
 timeout_row ring h id d s term k n r = go (term == d.term && votes ring id && not (is_leader s.role))
   where

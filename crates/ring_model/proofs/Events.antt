@@ -28,9 +28,11 @@ use Rattle.ring_model.proofs.Restarts.{partly}
 
 -- ---- what a task does
 restart_cut : (d : Durable) (count : ℕ) → SameLog d (all_done d (take count (restart_actions d)))
-restart_cut d = partly (SameLog d) d (record { term = refl; votes = refl; log = refl; applied = refl }) (λ opids is. record { term = refl; votes = refl; log = refl; applied = refl })
+restart_cut d =
+    partly (SameLog d) d (record { term = refl; votes = refl; log = refl; applied = refl }) (λ opids is. record { term = refl; votes = refl; log = refl; applied = refl })
 
-handled_over : (ring : Layout) (w : WorldState) (h : History) (id : ℕ) (i : Input) (completion : Completion) (o : Option Soft) → (w.nodes id).soft ≡ o → IsWorld ring w h → IsGiven w.messages id i
+handled_over : (ring : Layout) (w : WorldState) (h : History) (id : ℕ) (i : Input) (completion : Completion) (o : Option Soft) → (w.nodes id).soft ≡ o
+    → IsWorld ring w h → IsGiven w.messages id i
     → Carried ring w (handled ring w id i completion (w.nodes id).durable o) h (held_at ring id (w.nodes id).durable o (Handle i) completion) (Some (id, Handle i))
 handled_over ring w h id i completion None up k given = passed_over ring w h (Some (id, Handle i)) k
 handled_over ring w h id i Whole (Some s) up k given =
@@ -107,17 +109,20 @@ in_number [] (suc k) m is = absurd cc
 in_number (x ∷ ms) (suc zero) m is = (zero, omega arith, cc)
 in_number (x ∷ ms) (suc (suc k)) m is = let y = in_number ms (suc k) m is in (suc y.0, omega (arith, y.1), y.2)
 
-given_over : (ring : Layout) (w : WorldState) (h : History) (completion : Completion) (number : ℕ) (o : Option Message) → message_at w.messages number ≡ o → IsWorld ring w h
+given_over : (ring : Layout) (w : WorldState) (h : History) (completion : Completion) (number : ℕ) (o : Option Message) → message_at w.messages number ≡ o
+    → IsWorld ring w h
     → Carried ring w (given ring w completion o) h (acted_elections ring w completion (acts_on o)) (acts_on o)
 given_over ring w h completion number None is k = passed_over ring w h None k
 given_over ring w h completion number (Some m) is k = member_over ring w h m.to (Handle (input.Deliver m)) completion k (in_number w.messages number m is, refl)
 
-given_to_over : (ring : Layout) (w : WorldState) (h : History) (id : ℕ) (completion : Completion) (number : ℕ) (o : Option Message) → message_at w.messages number ≡ o → IsWorld ring w h
+given_to_over : (ring : Layout) (w : WorldState) (h : History) (id : ℕ) (completion : Completion) (number : ℕ) (o : Option Message)
+    → message_at w.messages number ≡ o → IsWorld ring w h
     → Carried ring w (given_to ring w id completion o) h (acted_elections ring w completion (acts_to id o)) (acts_to id o)
 given_to_over ring w h id completion number None is k = member_over ring w h id Rest completion k tt
 given_to_over ring w h id completion number (Some m) is k = member_over ring w h m.to (Handle (input.Deliver m)) completion k (in_number w.messages number m is, refl)
 
-moved_way : (ring : Layout) (w : WorldState) (id number : ℕ) (acted : Option (ℕ × Task)) (l : List Entry) → OnWay ring (moved w id number) acted l → OnWay ring w acted l
+moved_way : (ring : Layout) (w : WorldState) (id number : ℕ) (acted : Option (ℕ × Task)) (l : List Entry) → OnWay ring (moved w id number) acted l
+    → OnWay ring w acted l
 moved_way ring w id number None l x = x
 moved_way ring w id number (Some (j, Handle i)) l x = x
 moved_way ring w id number (Some (j, GoDown)) l x = x
@@ -125,7 +130,8 @@ moved_way ring w id number (Some (j, ComeUp)) l x = x
 moved_way ring w id number (Some (j, Rest)) l x = x
 
 -- a moved cursor changes nothing that is said of a world
-from_moved : (ring : Layout) (w z : WorldState) (h : History) (id number : ℕ) (held : List Election) (acted : Option (ℕ × Task)) → Carried ring (moved w id number) z h held acted → Carried ring w z h held acted
+from_moved : (ring : Layout) (w z : WorldState) (h : History) (id number : ℕ) (held : List Election) (acted : Option (ℕ × Task))
+    → Carried ring (moved w id number) z h held acted → Carried ring w z h held acted
 from_moved ring w z h id number held acted x = record {
   joined = record {
     after = x.joined.after;
@@ -140,12 +146,14 @@ from_moved ring w z h id number held acted x = record {
   books = λ e in_e. elim (x.books e in_e) [ inl old ↦ inl old | inr new ↦ inr (moved_way ring w id number acted (x.joined.after.book e.term) new) ];
 }
 
-acts_same : (ring : Layout) (w : WorldState) (id number : ℕ) (completion : Completion) (o : Option (ℕ × Task)) → acted_elections ring (moved w id number) completion o ≡ acted_elections ring w completion o
+acts_same : (ring : Layout) (w : WorldState) (id number : ℕ) (completion : Completion) (o : Option (ℕ × Task))
+    → acted_elections ring (moved w id number) completion o ≡ acted_elections ring w completion o
 acts_same ring w id number completion None = refl
 acts_same ring w id number completion (Some a) = refl
 
 -- an event on the world with the cursor moved, as one on the world before
-over_moved : (ring : Layout) (w z : WorldState) (h : History) (id number : ℕ) (completion : Completion) (acted : Option (ℕ × Task)) → Carried ring (moved w id number) z h (acted_elections ring (moved w id number) completion acted) acted
+over_moved : (ring : Layout) (w z : WorldState) (h : History) (id number : ℕ) (completion : Completion) (acted : Option (ℕ × Task))
+    → Carried ring (moved w id number) z h (acted_elections ring (moved w id number) completion acted) acted
     → Carried ring w z h (acted_elections ring w completion acted) acted
 over_moved ring w z h id number completion acted x =
     from_moved ring w z h id number (acted_elections ring w completion acted) acted
@@ -167,7 +175,8 @@ skipped_over ring w h id completion None k = member_over ring w h id Rest comple
 skipped_over ring w h id completion (Some number) k =
     over_moved ring w (skipped ring w id completion (Some number)) h id number completion (Some (id, Rest)) (member_over ring (moved w id number) h id Rest completion (moved_world ring w h id number k) tt)
 
-at_over : (ring : Layout) (w : WorldState) (h : History) (id : ℕ) (i : Input) (completion : Completion) → IsWorld ring w h → Carried ring w (at_node ring w id i completion) h (acted_elections ring w completion (acts_at id i)) (acts_at id i)
+at_over : (ring : Layout) (w : WorldState) (h : History) (id : ℕ) (i : Input) (completion : Completion) → IsWorld ring w h
+    → Carried ring w (at_node ring w id i completion) h (acted_elections ring w completion (acts_at id i)) (acts_at id i)
 at_over ring w h id (input.Deliver m) completion k = member_over ring w h id Rest completion k tt
 at_over ring w h id input.Elect completion k = member_over ring w h id (Handle input.Elect) completion k tt
 at_over ring w h id input.Beat completion k = member_over ring w h id (Handle input.Beat) completion k tt
@@ -176,7 +185,8 @@ at_over ring w h id (input.Rotate client) completion k = member_over ring w h id
 at_over ring w h id (input.Transfer client target) completion k = member_over ring w h id (Handle (input.Transfer client target)) completion k tt
 at_over ring w h id (input.Cancel client) completion k = member_over ring w h id (Handle (input.Cancel client)) completion k tt
 
-line_over : (ring : Layout) (w : WorldState) (h : History) (completion : Completion) (l : Line) → IsWorld ring w h → Carried ring w (line_step ring w completion l) h (acted_elections ring w completion (acting w l)) (acting w l)
+line_over : (ring : Layout) (w : WorldState) (h : History) (completion : Completion) (l : Line) → IsWorld ring w h
+    → Carried ring w (line_step ring w completion l) h (acted_elections ring w completion (acting w l)) (acting w l)
 line_over ring w h completion (line.At node i) k = at_over ring w h node i completion k
 line_over ring w h completion (line.Give number) k = given_over ring w h completion number (message_at w.messages number) refl k
 line_over ring w h completion (line.Next node) k = next_over ring w h node completion (next_to w node) k
@@ -185,12 +195,14 @@ line_over ring w h completion (line.Again node) k = given_to_over ring w h node 
 line_over ring w h completion (line.Crash node) k = member_over ring w h node GoDown completion k tt
 line_over ring w h completion (line.Restart node) k = member_over ring w h node ComeUp completion k tt
 
-pub event_over : (ring : Layout) (w : WorldState) (h : History) (m : Move) → IsWorld ring w h → Carried ring w (world_step ring w m.event m.completion) h (event_elections ring w m) (acting w m.event.what)
+pub event_over : (ring : Layout) (w : WorldState) (h : History) (m : Move) → IsWorld ring w h
+    → Carried ring w (world_step ring w m.event m.completion) h (event_elections ring w m) (acting w m.event.what)
 unfolding world_step
 event_over ring w h m k = line_over ring w h m.completion m.event.what k
 
 -- ---- no event is torn
-task_whole : (ring : Layout) (w : WorldState) (h : History) (id : ℕ) (task : Task) (o : Option Soft) → (w.nodes id).soft ≡ o → IsWorld ring w h → MayTake w.messages id task → tear_at ring id (w.nodes id).durable o task ≡ None
+task_whole : (ring : Layout) (w : WorldState) (h : History) (id : ℕ) (task : Task) (o : Option Soft) → (w.nodes id).soft ≡ o → IsWorld ring w h
+    → MayTake w.messages id task → tear_at ring id (w.nodes id).durable o task ≡ None
 task_whole ring w h id (Handle i) None up k given = refl
 task_whole ring w h id (Handle i) (Some s) up k given =
     step_whole ring h id (w.nodes id).durable s i k.history (k.nodes id) (k.running id s up) (subst (λ (ms : List Message). IsGiven ms id i) (sym k.messages) given)
@@ -201,18 +213,21 @@ task_whole ring w h id ComeUp (Some s) up k given = refl
 task_whole ring w h id Rest None up k given = refl
 task_whole ring w h id Rest (Some s) up k given = refl
 
-member_whole : (ring : Layout) (w : WorldState) (h : History) (id : ℕ) (task : Task) → IsWorld ring w h → MayTake w.messages id task → acted_tear ring w (Some (id, task)) ≡ None
+member_whole : (ring : Layout) (w : WorldState) (h : History) (id : ℕ) (task : Task) → IsWorld ring w h → MayTake w.messages id task
+    → acted_tear ring w (Some (id, task)) ≡ None
 member_whole ring w h id task k given = go (is_member ring id)
   where
     go : (b : Bool) → (if b then tear_at ring id (w.nodes id).durable (w.nodes id).soft task else None) ≡ None
     go true = task_whole ring w h id task (w.nodes id).soft refl k given
     go false = refl
 
-given_whole : (ring : Layout) (w : WorldState) (h : History) (number : ℕ) (o : Option Message) → message_at w.messages number ≡ o → IsWorld ring w h → acted_tear ring w (acts_on o) ≡ None
+given_whole : (ring : Layout) (w : WorldState) (h : History) (number : ℕ) (o : Option Message) → message_at w.messages number ≡ o → IsWorld ring w h
+    → acted_tear ring w (acts_on o) ≡ None
 given_whole ring w h number None is k = refl
 given_whole ring w h number (Some m) is k = member_whole ring w h m.to (Handle (input.Deliver m)) k (in_number w.messages number m is, refl)
 
-given_to_whole : (ring : Layout) (w : WorldState) (h : History) (id number : ℕ) (o : Option Message) → message_at w.messages number ≡ o → IsWorld ring w h → acted_tear ring w (acts_to id o) ≡ None
+given_to_whole : (ring : Layout) (w : WorldState) (h : History) (id number : ℕ) (o : Option Message) → message_at w.messages number ≡ o → IsWorld ring w h
+    → acted_tear ring w (acts_to id o) ≡ None
 given_to_whole ring w h id number None is k = member_whole ring w h id Rest k tt
 given_to_whole ring w h id number (Some m) is k = member_whole ring w h m.to (Handle (input.Deliver m)) k (in_number w.messages number m is, refl)
 

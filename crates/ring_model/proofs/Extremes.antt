@@ -17,7 +17,8 @@ batch_is_longest schema zero bytes entries = record { inside = omega arith; few 
 batch_is_longest schema (suc count) bytes [] = record { inside = omega arith; few = omega arith; fits = omega arith; longest = λ a b. absurd (omega (arith, a)) }
 batch_is_longest schema (suc count) bytes (e ∷ entries) = go (nat_le (group_size schema e.payload) bytes) refl (batch_is_longest schema count (bytes - group_size schema e.payload) entries)
   where
-    go : (b : Bool) → nat_le (group_size schema e.payload) bytes ≡ b → IsLongest schema count (bytes - group_size schema e.payload) entries (batch_length schema count (bytes - group_size schema e.payload) entries)
+    go : (b : Bool) → nat_le (group_size schema e.payload) bytes ≡ b
+        → IsLongest schema count (bytes - group_size schema e.payload) entries (batch_length schema count (bytes - group_size schema e.payload) entries)
         → IsLongest schema (suc count) bytes (e ∷ entries) (if b then suc (batch_length schema count (bytes - group_size schema e.payload) entries) else 0)
     go true is rest =
         let small : group_size schema e.payload ≤ bytes = grind (arith, nat_tests, is) in
@@ -30,7 +31,8 @@ batch_is_longest schema (suc count) bytes (e ∷ entries) = go (nat_le (group_si
         record { inside = omega arith; few = omega arith; fits = omega arith; longest = λ x y. omega (arith, large) }
 
 -- ---- a tear
-shifted : (log : List Entry) (commit position sent : ℕ) (terms : List ℕ) → term_at log position ≡ sent → (o : Option Tear) → TearIs log commit (suc position) terms o → TearIs log commit position (sent ∷ terms) o
+shifted : (log : List Entry) (commit position sent : ℕ) (terms : List ℕ) → term_at log position ≡ sent → (o : Option Tear)
+    → TearIs log commit (suc position) terms o → TearIs log commit position (sent ∷ terms) o
 shifted log commit position sent terms same None x = go
   where
     go : (k other : ℕ) → position + k ≤ commit → slice_get (sent ∷ terms) k ≡ Some other → term_at log (position + k) ≡ other
@@ -54,7 +56,8 @@ pub tear_is_first : TearIsFirst
 tear_is_first log commit position [] = λ k sent low at. absurd cc
 tear_is_first log commit position (sent ∷ terms) = go (nat_le position commit) refl (term_at log position == sent) refl (tear_is_first log commit (suc position) terms)
   where
-    go : (a : Bool) → nat_le position commit ≡ a → (b : Bool) → (term_at log position == sent) ≡ b → TearIs log commit (suc position) terms (first_tear log commit (suc position) terms)
+    go : (a : Bool) → nat_le position commit ≡ a → (b : Bool) → (term_at log position == sent) ≡ b
+        → TearIs log commit (suc position) terms (first_tear log commit (suc position) terms)
         → TearIs log commit position (sent ∷ terms) (if a then (if b then first_tear log commit (suc position) terms else Some (record { position = position; kept_term = term_at log position; sent_term = sent })) else None)
     go true x true y rest = shifted log commit position sent terms (grind (arith, nat_tests, y)) (first_tear log commit (suc position) terms) rest
     go true x false y rest = record {
@@ -80,7 +83,8 @@ greatest_passes test floor (suc n) = go (nat_le (suc n) floor) refl (test (suc n
     one_more : (m k : ℕ) → ((j : ℕ) → m < j → j ≤ n → test j ≡ false) → test (suc n) ≡ false → m < k → k ≤ suc n → test k ≡ false
     one_more m k none fails above top = elim (cases_eq k (suc n)) [ inl here ↦ subst (λ (j : ℕ). test j ≡ false) (sym here) fails | inr other ↦ none k above (omega (arith, other, top)) ]
 
-    go : (a : Bool) → nat_le (suc n) floor ≡ a → (b : Bool) → test (suc n) ≡ b → IsGreatest test floor n (greatest test floor n) → IsGreatest test floor (suc n) (if a then floor else (if b then suc n else greatest test floor n))
+    go : (a : Bool) → nat_le (suc n) floor ≡ a → (b : Bool) → test (suc n) ≡ b → IsGreatest test floor n (greatest test floor n)
+        → IsGreatest test floor (suc n) (if a then floor else (if b then suc n else greatest test floor n))
     go true x b y rest = record { reached = inl refl; none_above = λ k above top. absurd (let z : suc n ≤ floor = grind (arith, nat_tests, x) in omega (arith, z, above, top)) }
     go false x true y rest = record { reached = inr ((let z : floor < suc n = grind (arith, nat_tests, x) in z), omega arith, y); none_above = λ k above top. absurd (omega (arith, above, top)) }
     go false x false y rest = record { reached = wider (greatest test floor n) rest.reached; none_above = λ k above top. one_more (greatest test floor n) k rest.none_above y above top }

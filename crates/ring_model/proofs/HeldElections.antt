@@ -14,7 +14,8 @@ use Rattle.ring_model.proofs.Moves.{Adds, Applies, Cuts, Engine, Extends, Guarde
 use Rattle.ring_model.proofs.Paths.{Ends, Goes_on, Path, elected, elects, path_cut}
 
 -- a move of a path that goes on to an election with these grants: a term or a vote, or the election itself with none after it
-abbrev pub IsHeldBy : (ring : Layout) (id : ℕ) (h g : History) (d : Durable) (a : Action) → List Grant → Guarded ring id h d a g → Type 0 → List Election → Type 0
+abbrev pub IsHeldBy : (ring : Layout) (id : ℕ) (h g : History) (d : Durable) (a : Action) → List Grant → Guarded ring id h d a g → Type 0 → List Election
+    → Type 0
 IsHeldBy ring id h g d a grants (Raises t is up low same) rest more = rest
 IsHeldBy ring id h g d a grants (Votes c floor is may same) rest more = rest
 IsHeldBy ring id h g d a grants (Leads e x is may same) rest more = (e.grants ≡ grants) × (more ≡ [])
@@ -47,7 +48,8 @@ quiet_cut_go [] ys is = (refl, is)
 quiet_cut_go (x ∷ xs) ys is = absurd cc
 
 -- a path that holds no election holds none in any beginning
-pub quiet_cut : (ring : Layout) (id : ℕ) (h g : History) (d : Durable) (steps : List Action) (n : ℕ) (path : Path ring id h d steps g) → elected ring id h g d steps path ≡ []
+pub quiet_cut : (ring : Layout) (id : ℕ) (h g : History) (d : Durable) (steps : List Action) (n : ℕ) (path : Path ring id h d steps g)
+    → elected ring id h g d steps path ≡ []
     → elected ring id h (path_cut ring id h g d steps n path).0 d (take n steps) (path_cut ring id h g d steps n path).1 ≡ []
 unfolding path_cut
 quiet_cut ring id h g d [] zero Ends none = refl
@@ -59,7 +61,8 @@ quiet_cut ring id h g d (a ∷ rest) (suc n) (Goes_on {g = m} move path) none =
     ∙ quiet_cut ring id m g (done d a) rest n path two.1
 
 -- ---- paths one after another
-pub path_join : (ring : Layout) (id : ℕ) (h g f : History) (d : Durable) (a b : List Action) → Path ring id h d a g → Path ring id g (all_done d a) b f → Path ring id h d (a ++ b) f
+pub path_join : (ring : Layout) (id : ℕ) (h g f : History) (d : Durable) (a b : List Action) → Path ring id h d a g → Path ring id g (all_done d a) b f
+    → Path ring id h d (a ++ b) f
 path_join ring id h g f d [] b Ends q = q
 path_join ring id h g f d (x ∷ a) b (Goes_on {g = m} move p) q = Goes_on move (path_join ring id m g f (done d x) a b p q)
 
@@ -76,7 +79,8 @@ quiet_join ring id h g f d (s ∷ a) b (Goes_on {g = m} move p) q x y =
     ap (λ (w : List Election). w ++ elected ring id m f (done d s) (a ++ b) (path_join ring id m g f (done d s) a b p q)) two.0 ∙ quiet_join ring id m g f (done d s) a b p q two.1 y
 
 -- what comes after an election holds none
-pub held_join : (ring : Layout) (id : ℕ) (h g f : History) (d : Durable) (a b : List Action) (grants : List Grant) (p : Path ring id h d a g) (q : Path ring id g (all_done d a) b f)
+pub held_join : (ring : Layout) (id : ℕ) (h g f : History) (d : Durable) (a b : List Action) (grants : List Grant) (p : Path ring id h d a g)
+    (q : Path ring id g (all_done d a) b f)
     → IsHeld ring id h g d a grants p → elected ring id g f (all_done d a) b q ≡ [] → IsHeld ring id h f d (a ++ b) grants (path_join ring id h g f d a b p q)
 unfolding path_join
 held_join ring id h g f d [] b grants Ends q x y = absurd x
@@ -90,7 +94,8 @@ held_join ring id h g f d (s ∷ a) b grants (Goes_on {g = m} (Applies w is seal
 held_join ring id h g f d (s ∷ a) b grants (Goes_on {g = m} (Engine sealed same) p) q x y = absurd x
 
 -- terms and votes may come before an election
-pub before_join : (ring : Layout) (id : ℕ) (h g f : History) (d : Durable) (a b : List Action) (grants : List Grant) (p : Path ring id h d a g) (q : Path ring id g (all_done d a) b f)
+pub before_join : (ring : Layout) (id : ℕ) (h g f : History) (d : Durable) (a b : List Action) (grants : List Grant) (p : Path ring id h d a g)
+    (q : Path ring id g (all_done d a) b f)
     → IsBefore ring id h g d a p → IsHeld ring id g f (all_done d a) b grants q → IsHeld ring id h f d (a ++ b) grants (path_join ring id h g f d a b p q)
 unfolding path_join
 before_join ring id h g f d [] b grants Ends q x y = y
@@ -104,7 +109,8 @@ before_join ring id h g f d (s ∷ a) b grants (Goes_on {g = m} (Applies w is se
 before_join ring id h g f d (s ∷ a) b grants (Goes_on {g = m} (Engine sealed same) p) q x y = absurd x
 
 -- terms and votes hold no election
-pub before_quiet : (ring : Layout) (id : ℕ) (h g : History) (d : Durable) (a : List Action) (p : Path ring id h d a g) → IsBefore ring id h g d a p → elected ring id h g d a p ≡ []
+pub before_quiet : (ring : Layout) (id : ℕ) (h g : History) (d : Durable) (a : List Action) (p : Path ring id h d a g) → IsBefore ring id h g d a p
+    → elected ring id h g d a p ≡ []
 before_quiet ring id h g d [] Ends x = refl
 before_quiet ring id h g d (s ∷ a) (Goes_on {g = m} (Raises t is up low same) p) x = before_quiet ring id m g (done d s) a p x
 before_quiet ring id h g d (s ∷ a) (Goes_on {g = m} (Votes c floor is may same) p) x = before_quiet ring id m g (done d s) a p x
@@ -130,13 +136,16 @@ append_found : (id : ℕ) (grants : List Grant) (d : Durable) (a : Action) (x : 
     → first_append id grants d (a ∷ rest) ≡ record { term = d.term; node = id; base = d.log; grants = grants } ∷ []
 append_found id grants d a x rest is = subst (λ (w : Action). first_append id grants d (w ∷ rest) ≡ record { term = d.term; node = id; base = d.log; grants = grants } ∷ []) (sym is) refl
 
-term_passed : (id : ℕ) (grants : List Grant) (d : Durable) (a : Action) (t : ℕ) (rest : List Action) → a ≡ action.SetTerm t → first_append id grants d (a ∷ rest) ≡ first_append id grants (done d a) rest
+term_passed : (id : ℕ) (grants : List Grant) (d : Durable) (a : Action) (t : ℕ) (rest : List Action) → a ≡ action.SetTerm t
+    → first_append id grants d (a ∷ rest) ≡ first_append id grants (done d a) rest
 term_passed id grants d a t rest is = subst (λ (w : Action). first_append id grants d (w ∷ rest) ≡ first_append id grants (done d w) rest) (sym is) refl
 
-vote_passed : (id : ℕ) (grants : List Grant) (d : Durable) (a : Action) (v : Vote) (floor : ℕ) (rest : List Action) → a ≡ action.Vote v floor → first_append id grants d (a ∷ rest) ≡ first_append id grants (done d a) rest
+vote_passed : (id : ℕ) (grants : List Grant) (d : Durable) (a : Action) (v : Vote) (floor : ℕ) (rest : List Action) → a ≡ action.Vote v floor
+    → first_append id grants d (a ∷ rest) ≡ first_append id grants (done d a) rest
 vote_passed id grants d a v floor rest is = subst (λ (w : Action). first_append id grants d (w ∷ rest) ≡ first_append id grants (done d w) rest) (sym is) refl
 
-pub held_whole : (ring : Layout) (id : ℕ) (h g : History) (d : Durable) (steps : List Action) (grants : List Grant) (path : Path ring id h d steps g) → IsHeld ring id h g d steps grants path
+pub held_whole : (ring : Layout) (id : ℕ) (h g : History) (d : Durable) (steps : List Action) (grants : List Grant) (path : Path ring id h d steps g)
+    → IsHeld ring id h g d steps grants path
     → elected ring id h g d steps path ≡ first_append id grants d steps
 held_whole ring id h g d [] grants Ends x = absurd x
 held_whole ring id h g d (a ∷ rest) grants (Goes_on {g = m} (Raises t is up low same) p) x = held_whole ring id m g (done d a) rest grants p x ∙ sym (term_passed id grants d a t rest is)
@@ -149,7 +158,8 @@ held_whole ring id h g d (a ∷ rest) grants (Goes_on {g = m} (Extends es is may
 held_whole ring id h g d (a ∷ rest) grants (Goes_on {g = m} (Applies w is sealed may same) p) x = absurd x
 held_whole ring id h g d (a ∷ rest) grants (Goes_on {g = m} (Engine sealed same) p) x = absurd x
 
-pub held_cut : (ring : Layout) (id : ℕ) (h g : History) (d : Durable) (steps : List Action) (grants : List Grant) (n : ℕ) (path : Path ring id h d steps g) → IsHeld ring id h g d steps grants path
+pub held_cut : (ring : Layout) (id : ℕ) (h g : History) (d : Durable) (steps : List Action) (grants : List Grant) (n : ℕ) (path : Path ring id h d steps g)
+    → IsHeld ring id h g d steps grants path
     → elected ring id h (path_cut ring id h g d steps n path).0 d (take n steps) (path_cut ring id h g d steps n path).1 ≡ first_append id grants d (take n steps)
 unfolding path_cut
 held_cut ring id h g d [] grants n Ends x = absurd x

@@ -41,7 +41,8 @@ pub record MayLead (ring : Layout) (h : History) (id : ℕ) (d : Durable) (e : E
   pub x_region : x.region ≡ region_of ring id
   pub x_place : x.opid.position ≡ suc (length d.log)
 
-module _ (ring : Layout) (h : History) (id : ℕ) (d : Durable) (e : Election) (x : Entry) (k : IsHistory ring h) (n : IsNode ring h id d) (may : MayLead ring h id d e x) where
+module _ (ring : Layout) (h : History) (id : ℕ) (d : Durable) (e : Election) (x : Entry) (k : IsHistory ring h) (n : IsNode ring h id d)
+    (may : MayLead ring h id d e x) where
   abbrev led : History
   led = with_election h e (d.log ++ x ∷ [])
 
@@ -148,7 +149,8 @@ pub record MayAdd (ring : Layout) (h : History) (id : ℕ) (d : Durable) (e : El
   pub x_region : x.region ≡ region_of ring id
   pub x_place : x.opid.position ≡ suc (length d.log)
 
-module _ (ring : Layout) (h : History) (id : ℕ) (d : Durable) (e : Election) (x : Entry) (k : IsHistory ring h) (n : IsNode ring h id d) (may : MayAdd ring h id d e x) where
+module _ (ring : Layout) (h : History) (id : ℕ) (d : Durable) (e : Election) (x : Entry) (k : IsHistory ring h) (n : IsNode ring h id d)
+    (may : MayAdd ring h id d e x) where
   abbrev added : History
   added = with_book h d.term (d.log ++ x ∷ [])
 

@@ -37,7 +37,8 @@ pub filter_of : {X : Type 0} (p : X → Bool) (xs : List X) (x : X) → Contains
 filter_of p [] x c = c
 filter_of p (y ∷ ys) x c = go p y ys x (filter_of p ys x) (p y) refl c
   where
-    go : {X : Type 0} (p : X → Bool) (y : X) (ys : List X) (x : X) → (Contains (filter p ys) x → Contains ys x) → (b : Bool) → p y ≡ b → Contains (filter p (y ∷ ys)) x → Contains (y ∷ ys) x
+    go : {X : Type 0} (p : X → Bool) (y : X) (ys : List X) (x : X) → (Contains (filter p ys) x → Contains ys x) → (b : Bool) → p y ≡ b
+        → Contains (filter p (y ∷ ys)) x → Contains (y ∷ ys) x
     go p y ys x ih true is c = let c' = rw is at c in elim (cons_cases y (filter p ys) x c') [ inl here ↦ (zero, omega arith, here) | inr there ↦ in_cons y ys x (ih there) ]
     go p y ys x ih false is c = let c' = rw is at c in in_cons y ys x (ih c')
 
@@ -45,7 +46,8 @@ pub filter_true : {X : Type 0} (p : X → Bool) (xs : List X) (x : X) → Contai
 filter_true p [] x c = absurd (omega (arith, c.1))
 filter_true p (y ∷ ys) x c = go p y ys x (filter_true p ys x) (p y) refl c
   where
-    go : {X : Type 0} (p : X → Bool) (y : X) (ys : List X) (x : X) → (Contains (filter p ys) x → p x ≡ true) → (b : Bool) → p y ≡ b → Contains (filter p (y ∷ ys)) x → p x ≡ true
+    go : {X : Type 0} (p : X → Bool) (y : X) (ys : List X) (x : X) → (Contains (filter p ys) x → p x ≡ true) → (b : Bool) → p y ≡ b
+        → Contains (filter p (y ∷ ys)) x → p x ≡ true
     go p y ys x ih true is c = let c' = rw is at c in elim (cons_cases y (filter p ys) x c') [ inl here ↦ ap p (sym here) ∙ is | inr there ↦ ih there ]
     go p y ys x ih false is c = let c' = rw is at c in ih c'
 
@@ -53,7 +55,8 @@ pub any_true : {X : Type 0} (p : X → Bool) (xs : List X) (x : X) → Contains 
 any_true p [] x c t = absurd (omega (arith, c.1))
 any_true p (y ∷ ys) x c t = go p y ys x t (p y) refl (cons_cases y ys x c) (λ d. any_true p ys x d t)
   where
-    go : {X : Type 0} (p : X → Bool) (y : X) (ys : List X) (x : X) → p x ≡ true → (b : Bool) → p y ≡ b → (y ≡ x) ⊎ Contains ys x → (Contains ys x → list_any p ys ≡ true) → list_any p (y ∷ ys) ≡ true
+    go : {X : Type 0} (p : X → Bool) (y : X) (ys : List X) (x : X) → p x ≡ true → (b : Bool) → p y ≡ b → (y ≡ x) ⊎ Contains ys x
+        → (Contains ys x → list_any p ys ≡ true) → list_any p (y ∷ ys) ≡ true
     go p y ys x t true is c ih = rw is refl
     go p y ys x t false is (inl here) ih = absurd (let z : true ≡ false = sym t ∙ (ap p (sym here) ∙ is) in cc)
     go p y ys x t false is (inr there) ih = rw is (ih there)
@@ -62,7 +65,8 @@ pub any_of : {X : Type 0} (p : X → Bool) (xs : List X) → list_any p xs ≡ t
 any_of p [] t = absurd (let z : false ≡ true = t in cc)
 any_of p (y ∷ ys) t = go p y ys t (p y) refl (any_of p ys)
   where
-    go : {X : Type 0} (p : X → Bool) (y : X) (ys : List X) → list_any p (y ∷ ys) ≡ true → (b : Bool) → p y ≡ b → (list_any p ys ≡ true → (x : X) × Contains ys x × (p x ≡ true)) → (x : X) × Contains (y ∷ ys) x × (p x ≡ true)
+    go : {X : Type 0} (p : X → Bool) (y : X) (ys : List X) → list_any p (y ∷ ys) ≡ true → (b : Bool) → p y ≡ b
+        → (list_any p ys ≡ true → (x : X) × Contains ys x × (p x ≡ true)) → (x : X) × Contains (y ∷ ys) x × (p x ≡ true)
     go p y ys t true is ih = (y, (zero, omega arith, refl), is)
     go p y ys t false is ih = let u = rw is at t in let x = ih u in (x.0, in_cons y ys x.0 x.1, x.2)
 
@@ -70,7 +74,8 @@ pub all_of : {X : Type 0} (p : X → Bool) (xs : List X) (x : X) → list_all p 
 all_of p [] x t c = absurd (omega (arith, c.1))
 all_of p (y ∷ ys) x t c = go p y ys x t (cons_cases y ys x c) (all_of p ys x) (p y) refl
   where
-    go : {X : Type 0} (p : X → Bool) (y : X) (ys : List X) (x : X) → list_all p (y ∷ ys) ≡ true → (y ≡ x) ⊎ Contains ys x → (list_all p ys ≡ true → Contains ys x → p x ≡ true) → (b : Bool) → p y ≡ b → p x ≡ true
+    go : {X : Type 0} (p : X → Bool) (y : X) (ys : List X) (x : X) → list_all p (y ∷ ys) ≡ true → (y ≡ x) ⊎ Contains ys x
+        → (list_all p ys ≡ true → Contains ys x → p x ≡ true) → (b : Bool) → p y ≡ b → p x ≡ true
     go p y ys x t (inl here) ih true is = ap p (sym here) ∙ is
     go p y ys x t (inr there) ih true is = ih (let u = rw is at t in u) there
     go p y ys x t c ih false is = absurd (let u = rw is at t in let z : false ≡ true = u in cc)
@@ -112,7 +117,8 @@ next_place y ys z x k (inl old) = inl old
 next_place y ys z x k (inr new) = inr (ap suc new.0, new.1)
 
 -- a place of a list with one more item is one of the list's, or the last
-pub place_cases : {X : Type 0} (xs : List X) (z : X) (k : ℕ) (x : X) → slice_get (xs ++ z ∷ []) k ≡ Some x → (slice_get xs k ≡ Some x) ⊎ ((k ≡ length xs) × (z ≡ x))
+pub place_cases : {X : Type 0} (xs : List X) (z : X) (k : ℕ) (x : X) → slice_get (xs ++ z ∷ []) k ≡ Some x
+    → (slice_get xs k ≡ Some x) ⊎ ((k ≡ length xs) × (z ≡ x))
 place_cases [] z zero x is = inr (refl, placed_first z x is)
 place_cases [] z (suc k) x is = absurd cc
 place_cases (y ∷ ys) z zero x is = inl is

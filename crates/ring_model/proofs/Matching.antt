@@ -86,9 +86,11 @@ module _ (ring : Layout) (h : History) (id : ℕ) (d : Durable) (k : IsHistory r
     holds_old none = agree_less (prev.position + length es) merged.kept d.log (h.book d.term) (omega (arith, merged.count)) merged.agree
 
     -- the new commit count, from the message
-    pub commit_new : (j : ℕ) (l : List Entry) → j ≤ mc → j ≤ prev.position + length es → Agree (prev.position + length es) l (h.book d.term) → IsSealed ring h d.term j l
+    pub commit_new : (j : ℕ) (l : List Entry) → j ≤ mc → j ≤ prev.position + length es → Agree (prev.position + length es) l (h.book d.term)
+        → IsSealed ring h d.term j l
     commit_new j l low high b = sealed_from_book ring h d.term mc j l low (agree_less j (prev.position + length es) l (h.book d.term) high b) s.sealed
 
     -- and the old one
-    pub commit_old : (c : ℕ) (l : List Entry) → IsSealed ring h d.term c d.log → IsFollowed d.log l (h.book d.term) → IsBookedLog ring h d.term l → IsSealed ring h d.term c l
+    pub commit_old : (c : ℕ) (l : List Entry) → IsSealed ring h d.term c d.log → IsFollowed d.log l (h.book d.term) → IsBookedLog ring h d.term l
+        → IsSealed ring h d.term c l
     commit_old c l x f log = seal_follows ring h id d l k n s.election s.led s.of_term not_mine f log c x

@@ -117,13 +117,15 @@ same_node ring h id d e s n = record {
   applied = subst (λ (l : List Entry). IsSealed ring h e.term e.applied l) (sym s.log) (subst (λ (t : ℕ). IsSealed ring h t e.applied d.log) (sym s.term) (subst (λ (c : ℕ). IsSealed ring h d.term c d.log) (sym s.applied) n.applied));
 }
 
-said_move : (ring : Layout) (id : ℕ) (h g f : History) (d : Durable) (a b : Action) → a ≡ b → g ≡ f → Holds ring id h f (done d b) → Holds ring id h g (done d a)
+said_move : (ring : Layout) (id : ℕ) (h g f : History) (d : Durable) (a b : Action) → a ≡ b → g ≡ f → Holds ring id h f (done d b)
+    → Holds ring id h g (done d a)
 said_move ring id h g f d a b is same x = subst (λ (w : History). Holds ring id h w (done d a)) (sym same) (subst (λ (c : Action). Holds ring id h f (done d c)) (sym is) x)
 
 pub still : (ring : Layout) (id : ℕ) (h : History) (d : Durable) → IsHistory ring h → IsNode ring h id d → Holds ring id h h d
 still ring id h d k n = record { history = k; node = n; grows = grows_refl id h }
 
-pub guarded_keeps : (ring : Layout) (id : ℕ) (h g : History) (d : Durable) (a : Action) → IsHistory ring h → IsNode ring h id d → Guarded ring id h d a g → Holds ring id h g (done d a)
+pub guarded_keeps : (ring : Layout) (id : ℕ) (h g : History) (d : Durable) (a : Action) → IsHistory ring h → IsNode ring h id d → Guarded ring id h d a g
+    → Holds ring id h g (done d a)
 guarded_keeps ring id h g d a k n (Raises t is up low same) =
     said_move ring id h g h d a (action.SetTerm t) is same (still ring id h (done d (action.SetTerm t)) k (raise_keeps ring h id t d up n))
 guarded_keeps ring id h g d a k n (Votes c floor is may same) =

@@ -20,7 +20,8 @@ use Rattle.ring_model.proofs.Advance.{seal_raise}
 
 -- ---- never torn
 -- a stretch of a book with which the log agrees up to its commit count is not torn there
-no_tear : (log b : List Entry) (commit q : ℕ) (es : List Entry) → q + length es ≤ length b → es ≡ take (length es) (drop q b) → ((j : ℕ) → j ≤ commit → term_at log j ≡ term_at b j) → first_tear log commit (suc q) (terms_of es) ≡ None
+no_tear : (log b : List Entry) (commit q : ℕ) (es : List Entry) → q + length es ≤ length b → es ≡ take (length es) (drop q b)
+    → ((j : ℕ) → j ≤ commit → term_at log j ≡ term_at b j) → first_tear log commit (suc q) (terms_of es) ≡ None
 no_tear log b commit q [] fits win same = refl
 no_tear log b commit q (e ∷ es) fits win same =
     go (nat_le (suc q) commit) refl (term_at log (suc q) == e.opid.term) refl (no_tear log b commit (suc q) es (omega arith) (window_cons q b e es (omega arith) win).1 same)
@@ -28,13 +29,15 @@ no_tear log b commit q (e ∷ es) fits win same =
     term_is : e.opid.term ≡ term_at b (suc q)
     term_is = (window_cons q b e es (omega arith) win).0
 
-    go : (a : Bool) → nat_le (suc q) commit ≡ a → (c : Bool) → (term_at log (suc q) == e.opid.term) ≡ c → first_tear log commit (suc (suc q)) (terms_of es) ≡ None
+    go : (a : Bool) → nat_le (suc q) commit ≡ a → (c : Bool) → (term_at log (suc q) == e.opid.term) ≡ c
+        → first_tear log commit (suc (suc q)) (terms_of es) ≡ None
         → (if a then (if c then first_tear log commit (suc (suc q)) (terms_of es) else Some (record { position = suc q; kept_term = term_at log (suc q); sent_term = e.opid.term })) else None) ≡ None
     go false x c y rest = refl
     go true x true y rest = rest
     go true x false y rest = absurd (let le : suc q ≤ commit = grind (arith, nat_tests, x) in let is : term_at log (suc q) ≡ e.opid.term = same (suc q) le ∙ sym term_is in grind (arith, nat_tests, y, is))
 
-tear_none : (ring : Layout) (h : History) (id : ℕ) (sent : Append) (d : Durable) (s : Soft) → nat_lt sent.term d.term ≡ false → IsHistory ring h → IsNode ring h id d → IsRunning ring h id d s
+tear_none : (ring : Layout) (h : History) (id : ℕ) (sent : Append) (d : Durable) (s : Soft) → nat_lt sent.term d.term ≡ false → IsHistory ring h
+    → IsNode ring h id d → IsRunning ring h id d s
     → IsSent ring h sent.leader id (body.Append sent) → (sent.leader ≡ id → ⊥) → tear_in d s sent ≡ None
 tear_none ring h id sent d s x k n r told foreign = go (nat_le sent.prev.position s.commit) refl (term_at d.log sent.prev.position == sent.prev.term) refl
   where
@@ -56,7 +59,8 @@ tear_none ring h id sent d s x k n r told foreign = go (nat_le sent.prev.positio
     go true y true z = no_tear d.log (h.book sent.term) s.commit sent.prev.position sent.entries told.0.fits (sym told.1) same
     go true y false z = absurd (let le : sent.prev.position ≤ s.commit = grind (arith, nat_tests, y) in let is : term_at d.log sent.prev.position ≡ sent.prev.term = same sent.prev.position le ∙ told.0.prev_term in grind (arith, nat_tests, z, is))
 
-pub append_tears_not : (ring : Layout) (h : History) (id : ℕ) (sent : Append) (d : Durable) (s : Soft) → IsHistory ring h → IsNode ring h id d → IsRunning ring h id d s
+pub append_tears_not : (ring : Layout) (h : History) (id : ℕ) (sent : Append) (d : Durable) (s : Soft) → IsHistory ring h → IsNode ring h id d
+    → IsRunning ring h id d s
     → IsSent ring h sent.leader id (body.Append sent) → (sent.leader ≡ id → ⊥) → append_tear d s sent ≡ None
 append_tears_not ring h id sent d s k n r told foreign = go (outgrows d sent) (nat_lt sent.term d.term) refl (leads_it d s sent)
   where

@@ -33,7 +33,8 @@ use Rattle.ring_model.proofs.Advance.{Led_on, advance_row}
 use Rattle.ring_model.proofs.Plain.{idle_row, raise_row, role_sent, sealed_sent, sends_more}
 use Rattle.ring_model.proofs.GreaterOf.{greater_both, greater_by, smaller_low}
 
-heard_matched : (h : History) (from t p : ℕ) (ok : Bool) (peers : List Peer) → ((x : Peer) → Contains peers x → 0 < x.matched → HasAcked h x.node t x.matched) → (ok ≡ true → HasAcked h from t p)
+heard_matched : (h : History) (from t p : ℕ) (ok : Bool) (peers : List Peer)
+    → ((x : Peer) → Contains peers x → 0 < x.matched → HasAcked h x.node t x.matched) → (ok ≡ true → HasAcked h from t p)
     → (y : Peer) → Contains (heard_among peers from ok p) y → 0 < y.matched → HasAcked h y.node t y.matched
 heard_matched h from t p ok [] f g y c some = absurd (omega (arith, c.1))
 heard_matched h from t p ok (x ∷ peers) f g y c some = go (x.node == from) refl ok refl c (λ z in_z more. heard_matched h from t p ok peers (λ w in_w. f w (in_cons x peers w in_w)) g z in_z more)
@@ -46,7 +47,8 @@ heard_matched h from t p ok (x ∷ peers) f g y c some = go (x.node == from) ref
     ]
     one false is same more = f x (zero, omega arith, refl) more
 
-    go : (a : Bool) → (x.node == from) ≡ a → (b : Bool) → ok ≡ b → Contains (heard_among (x ∷ peers) from ok p) y → ((z : Peer) → Contains (heard_among peers from ok p) z → 0 < z.matched → HasAcked h z.node t z.matched) → HasAcked h y.node t y.matched
+    go : (a : Bool) → (x.node == from) ≡ a → (b : Bool) → ok ≡ b → Contains (heard_among (x ∷ peers) from ok p) y
+        → ((z : Peer) → Contains (heard_among peers from ok p) z → 0 < z.matched → HasAcked h z.node t z.matched) → HasAcked h y.node t y.matched
     go true e b is c ih = let u = rw e at c in elim (cons_cases (heard_from x ok p) (heard_among peers from ok p) y u) [
       | inl here ↦ at_heard b is (ap (λ (w : Bool). heard_from x w p) (sym is) ∙ here)
       | inr there ↦ ih y there some
@@ -60,7 +62,8 @@ heard_matched h from t p ok (x ∷ peers) f g y c some = go (x.node == from) ref
       | inr there ↦ ih y there some
     ]
 
-pub heard_one : (x : Peer) (ok : Bool) (p n : ℕ) → p ≤ n → (x.matched < x.next) × (x.next ≤ suc n) → ((heard_from x ok p).matched < (heard_from x ok p).next) × ((heard_from x ok p).next ≤ suc n)
+pub heard_one : (x : Peer) (ok : Bool) (p n : ℕ) → p ≤ n → (x.matched < x.next) × (x.next ≤ suc n)
+    → ((heard_from x ok p).matched < (heard_from x ok p).next) × ((heard_from x ok p).next ≤ suc n)
 heard_one x true p n le f =
     let b = greater_both x.next (suc p) in
     (greater_by (λ (w : ℕ). w < greater_of x.next (suc p)) x.matched p (omega (arith, b.0, f.0)) (omega (arith, b.1)), greater_by (λ (w : ℕ). w ≤ suc n) x.next (suc p) f.1 (omega arith))
@@ -68,11 +71,13 @@ heard_one x false p n le f =
     let b = greater_both (suc x.matched) (smaller_of x.next (suc p)) in
     (omega (arith, b.0), greater_by (λ (w : ℕ). w ≤ suc n) (suc x.matched) (smaller_of x.next (suc p)) (omega (arith, f.0, f.1)) (omega (arith, (smaller_low x.next (suc p)).0, f.1)))
 
-heard_next : (from p n : ℕ) (ok : Bool) (peers : List Peer) → p ≤ n → ((x : Peer) → Contains peers x → (x.matched < x.next) × (x.next ≤ suc n)) → (y : Peer) → Contains (heard_among peers from ok p) y → (y.matched < y.next) × (y.next ≤ suc n)
+heard_next : (from p n : ℕ) (ok : Bool) (peers : List Peer) → p ≤ n → ((x : Peer) → Contains peers x → (x.matched < x.next) × (x.next ≤ suc n)) → (y : Peer)
+    → Contains (heard_among peers from ok p) y → (y.matched < y.next) × (y.next ≤ suc n)
 heard_next from p n ok [] le f y c = absurd (omega (arith, c.1))
 heard_next from p n ok (x ∷ peers) le f y c = go (x.node == from) refl c (λ z in_z. heard_next from p n ok peers le (λ w in_w. f w (in_cons x peers w in_w)) z in_z)
   where
-    go : (a : Bool) → (x.node == from) ≡ a → Contains (heard_among (x ∷ peers) from ok p) y → ((z : Peer) → Contains (heard_among peers from ok p) z → (z.matched < z.next) × (z.next ≤ suc n)) → (y.matched < y.next) × (y.next ≤ suc n)
+    go : (a : Bool) → (x.node == from) ≡ a → Contains (heard_among (x ∷ peers) from ok p) y
+        → ((z : Peer) → Contains (heard_among peers from ok p) z → (z.matched < z.next) × (z.next ≤ suc n)) → (y.matched < y.next) × (y.next ≤ suc n)
     go true e c ih = let u = rw e at c in elim (cons_cases (heard_from x ok p) (heard_among peers from ok p) y u) [
       | inl here ↦ subst (λ (w : Peer). (w.matched < w.next) × (w.next ≤ suc n)) here (heard_one x ok p n le (f x (zero, omega arith, refl)))
       | inr there ↦ ih y there
@@ -98,7 +103,8 @@ counted d s answer is = go s.role refl (answer.term == d.term) refl (nat_le answ
     go Leader x true y false z = absurd (let u = rw (x, y, z) at is in let w : false ≡ true = u in cc)
     go Leader x true y true z = record { leads = x; of_term = grind (arith, nat_tests, y); inside = grind (arith, nat_tests, z) }
 
-hears_row : (ring : Layout) (h : History) (m : Message) (id from : ℕ) (answer : AppendReply) (d : Durable) (s : Soft) → IsCounted d s answer → IsHistory ring h → IsNode ring h id d → IsRunning ring h id d s
+hears_row : (ring : Layout) (h : History) (m : Message) (id from : ℕ) (answer : AppendReply) (d : Durable) (s : Soft) → IsCounted d s answer
+    → IsHistory ring h → IsNode ring h id d → IsRunning ring h id d s
     → Contains h.messages m → m.from ≡ from → m.body ≡ body.AppendReply answer → IsRow ring h id d s (leader_hears ring id d s from answer)
 hears_row ring h m id from answer d s count k n r in_m by is =
     let l : IsLeader h id d s = subst (λ (o : Role). HasRole h id d s o) count.leads r.role in
@@ -114,7 +120,8 @@ hears_row ring h m id from answer d s count k n r in_m by is =
     } in
     advance_row ring h h id d s t [] [] Ends k n count.leads new r.sealed r.applied (Led_on (ap is_leader count.leads) refl)
 
-ack_row : (ring : Layout) (h : History) (m : Message) (id from : ℕ) (answer : AppendReply) (d : Durable) (s : Soft) → IsHistory ring h → IsNode ring h id d → IsRunning ring h id d s
+ack_row : (ring : Layout) (h : History) (m : Message) (id from : ℕ) (answer : AppendReply) (d : Durable) (s : Soft) → IsHistory ring h → IsNode ring h id d
+    → IsRunning ring h id d s
     → Contains h.messages m → m.from ≡ from → m.body ≡ body.AppendReply answer → IsRow ring h id d s (on_ack ring id d s from answer)
 unfolding on_ack
 ack_row ring h m id from answer d s k n r in_m by is = go (nat_lt d.term answer.term) refl (counts d s answer) refl
@@ -126,7 +133,8 @@ ack_row ring h m id from answer d s k n r in_m by is = go (nat_lt d.term answer.
     go false x false y = idle_row ring h id d s r
 
 -- one more message that claims nothing
-more_row : (ring : Layout) (h : History) (id to term : ℕ) (d : Durable) (s : Soft) (st : Step) → IsRow ring h id d s st → IsRow ring h id d s (with_more st (message id to (body.TimeoutNow term) ∷ []))
+more_row : (ring : Layout) (h : History) (id to term : ℕ) (d : Durable) (s : Soft) (st : Step) → IsRow ring h id d s st
+    → IsRow ring h id d s (with_more st (message id to (body.TimeoutNow term) ∷ []))
 more_row ring h id to term d s st row =
     let m : Message = message id to (body.TimeoutNow term) in
     record {
@@ -154,7 +162,8 @@ none_more_row ring h id d s st row = record {
   holding = row.holding;
 }
 
-over_row : (ring : Layout) (h : History) (id from : ℕ) (e d : Durable) (s : Soft) (peers : List Peer) (t : Transfer) (st : Step) → IsRow ring h id d s st → IsRow ring h id d s (with_more st (after_ok id e peers from t))
+over_row : (ring : Layout) (h : History) (id from : ℕ) (e d : Durable) (s : Soft) (peers : List Peer) (t : Transfer) (st : Step) → IsRow ring h id d s st
+    → IsRow ring h id d s (with_more st (after_ok id e peers from t))
 over_row ring h id from e d s peers transfer.Off st row = none_more_row ring h id d s st row
 over_row ring h id from e d s peers (transfer.Mock target round client) st row = none_more_row ring h id d s st row
 over_row ring h id from e d s peers (transfer.Handing target client) st row = go (target == from) (has_matched peers target (length e.log))
@@ -164,7 +173,8 @@ over_row ring h id from e d s peers (transfer.Handing target client) st row = go
     go true false = none_more_row ring h id d s st row
     go false b = none_more_row ring h id d s st row
 
-pub answered_row : (ring : Layout) (h : History) (m : Message) (id from : ℕ) (answer : AppendReply) (d : Durable) (s : Soft) → IsHistory ring h → IsNode ring h id d → IsRunning ring h id d s
+pub answered_row : (ring : Layout) (h : History) (m : Message) (id from : ℕ) (answer : AppendReply) (d : Durable) (s : Soft) → IsHistory ring h
+    → IsNode ring h id d → IsRunning ring h id d s
     → Contains h.messages m → m.from ≡ from → m.body ≡ body.AppendReply answer → IsRow ring h id d s (on_answer ring id d s from answer)
 unfolding on_answer
 answered_row ring h m id from answer d s k n r in_m by is = go (counts d s answer && answer.ok)

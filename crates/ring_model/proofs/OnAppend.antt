@@ -36,15 +36,18 @@ use Rattle.ring_model.proofs.Plain.{idle_row, role_sent, sealed_sent}
 use Rattle.ring_model.proofs.GreaterOf.{greater_both, greater_by, smaller_low}
 use Rattle.ring_model.proofs.TakingIn.{TakenIn, take_in_same, taken_in}
 
-refusal_sent : (ring : Layout) (h : History) (id to t p : ℕ) (d : Durable) → Sends ring id d h (reply id to t false p ∷ []) (with_message h (reply id to t false p))
+refusal_sent : (ring : Layout) (h : History) (id to t p : ℕ) (d : Durable)
+    → Sends ring id d h (reply id to t false p ∷ []) (with_message h (reply id to t false p))
 refusal_sent ring h id to t p d = Sends_on {m = reply id to t false p} (λ bad. absurd (let z : false ≡ true = bad in cc)) (record { from = refl; answers = λ u v bad. absurd (let z : false ≡ true = ap is_ok bad in cc) }) Sent_all
   where
     is_ok : Body → Bool
     is_ok (body.AppendReply answer) = answer.ok
     is_ok b = true
 
-refusing_row : (ring : Layout) (h : History) (id to t p : ℕ) (d : Durable) (o s : Soft) (first : List Action) (says : List Say) (q : Path ring id h d first h) → IsBefore ring id h h d first q → (is_leader o.role ≡ true) ⊎ (is_leader s.role ≡ false)
-    → HasRole h id (all_done d first) s s.role → IsSealed ring h (all_done d first).term s.commit (all_done d first).log → (all_done d first).applied ≤ s.commit → s.commit ≤ length h.chosen
+refusing_row : (ring : Layout) (h : History) (id to t p : ℕ) (d : Durable) (o s : Soft) (first : List Action) (says : List Say)
+    (q : Path ring id h d first h) → IsBefore ring id h h d first q → (is_leader o.role ≡ true) ⊎ (is_leader s.role ≡ false)
+    → HasRole h id (all_done d first) s s.role → IsSealed ring h (all_done d first).term s.commit (all_done d first).log
+    → (all_done d first).applied ≤ s.commit → s.commit ≤ length h.chosen
     → IsRow ring h id d o (stepped first (reply id to t false p ∷ []) says s)
 refusing_row ring h id to t p d o s first says q before standing role sealed applied low = record {
   acted = h;
@@ -62,9 +65,12 @@ refusing_row ring h id to t p d o s first says q before standing role sealed app
 }
 
 -- an Append whose previous opid the log has
-accept_row : (ring : Layout) (h : History) (id : ℕ) (sent : Append) (d : Durable) (o s : Soft) (first : List Action) (says : List Say) → IsHistory ring h → (p : Path ring id h d first h) → IsBefore ring id h h d first p → IsNode ring h id (all_done d first)
-    → (all_done d first).term ≡ sent.term → (all_done d first).log ≡ d.log → s.role ≡ Follower → IsSealed ring h (all_done d first).term s.commit (all_done d first).log → (all_done d first).applied ≤ s.commit → s.commit ≤ length h.chosen
-    → IsStretch ring h (all_done d first).term sent.leader sent.prev sent.commit (length sent.entries) → take (length sent.entries) (drop sent.prev.position (h.book (all_done d first).term)) ≡ sent.entries → (sent.leader ≡ id → ⊥)
+accept_row : (ring : Layout) (h : History) (id : ℕ) (sent : Append) (d : Durable) (o s : Soft) (first : List Action) (says : List Say) → IsHistory ring h
+    → (p : Path ring id h d first h) → IsBefore ring id h h d first p → IsNode ring h id (all_done d first)
+    → (all_done d first).term ≡ sent.term → (all_done d first).log ≡ d.log → s.role ≡ Follower
+    → IsSealed ring h (all_done d first).term s.commit (all_done d first).log → (all_done d first).applied ≤ s.commit → s.commit ≤ length h.chosen
+    → IsStretch ring h (all_done d first).term sent.leader sent.prev sent.commit (length sent.entries)
+    → take (length sent.entries) (drop sent.prev.position (h.book (all_done d first).term)) ≡ sent.entries → (sent.leader ≡ id → ⊥)
     → Agree sent.prev.position (all_done d first).log (h.book (all_done d first).term) → IsRow ring h id d o (accept ring id d s first says sent)
 accept_row ring h id sent d o s first says k p before n is_t same_log role sealed applied low_chosen stretch win foreign a =
     let e : Durable = all_done d first in
@@ -127,8 +133,10 @@ accept_row ring h id sent d o s first says k p before n is_t same_log role seale
     place_in b = 0
 
 -- an Append once the node has its term
-match_row : (ring : Layout) (h : History) (id : ℕ) (sent : Append) (d : Durable) (o s : Soft) (first : List Action) (says : List Say) → IsHistory ring h → (p : Path ring id h d first h) → IsBefore ring id h h d first p → IsNode ring h id (all_done d first)
-    → (all_done d first).term ≡ sent.term → (all_done d first).log ≡ d.log → s.role ≡ Follower → IsSealed ring h (all_done d first).term s.commit (all_done d first).log → (all_done d first).applied ≤ s.commit → s.commit ≤ length h.chosen
+match_row : (ring : Layout) (h : History) (id : ℕ) (sent : Append) (d : Durable) (o s : Soft) (first : List Action) (says : List Say) → IsHistory ring h
+    → (p : Path ring id h d first h) → IsBefore ring id h h d first p → IsNode ring h id (all_done d first)
+    → (all_done d first).term ≡ sent.term → (all_done d first).log ≡ d.log → s.role ≡ Follower
+    → IsSealed ring h (all_done d first).term s.commit (all_done d first).log → (all_done d first).applied ≤ s.commit → s.commit ≤ length h.chosen
     → IsSent ring h sent.leader id (body.Append sent) → (sent.leader ≡ id → ⊥) → IsRow ring h id d o (match_append ring id d s first says sent)
 match_row ring h id sent d o s first says k p before n is_t same role sealed applied low told foreign =
     go (nat_lt (length d.log) sent.prev.position) refl (term_at d.log sent.prev.position == sent.prev.term) refl
@@ -149,7 +157,8 @@ match_row ring h id sent d o s first says k p before n is_t same role sealed app
         let a = prev_agrees ring h id (all_done d first) k n sent.leader sent.prev sent.commit sent.entries stretch win foreign sent.prev.position refl le at in
         accept_row ring h id sent d o s first says k p before n is_t same role sealed applied low stretch win foreign a
 
-follow_row : (ring : Layout) (h : History) (id : ℕ) (sent : Append) (d : Durable) (s : Soft) → nat_lt sent.term d.term ≡ false → IsHistory ring h → IsNode ring h id d → IsRunning ring h id d s
+follow_row : (ring : Layout) (h : History) (id : ℕ) (sent : Append) (d : Durable) (s : Soft) → nat_lt sent.term d.term ≡ false → IsHistory ring h
+    → IsNode ring h id d → IsRunning ring h id d s
     → IsSent ring h sent.leader id (body.Append sent) → (sent.leader ≡ id → ⊥) → IsRow ring h id d s (follow_append ring id d s sent)
 follow_row ring h id sent d s x k n r told foreign = go (nat_lt d.term sent.term) refl s.role refl
   where
@@ -171,7 +180,8 @@ leader_or_not s = pick (is_leader s.role) refl
     pick true is = inl is
     pick false is = inr is
 
-pub append_row : (ring : Layout) (h : History) (id : ℕ) (sent : Append) (d : Durable) (s : Soft) → IsHistory ring h → IsNode ring h id d → IsRunning ring h id d s
+pub append_row : (ring : Layout) (h : History) (id : ℕ) (sent : Append) (d : Durable) (s : Soft) → IsHistory ring h → IsNode ring h id d
+    → IsRunning ring h id d s
     → IsSent ring h sent.leader id (body.Append sent) → (sent.leader ≡ id → ⊥) → IsRow ring h id d s (on_append ring id d s sent)
 unfolding on_append
 append_row ring h id sent d s k n r told foreign = go (outgrows d sent) (nat_lt sent.term d.term) refl (leads_it d s sent) (tear_in d s sent)

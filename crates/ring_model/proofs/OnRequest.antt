@@ -41,7 +41,8 @@ kept_in_term : (votes : List Vote) (t : ℕ) (w : Vote) → vote_in votes t ≡ 
 kept_in_term [] t w is = absurd cc
 kept_in_term (x ∷ votes) t w is = go (x.term == t) refl is (kept_in_term votes t w)
   where
-    go : (b : Bool) → (x.term == t) ≡ b → vote_in (x ∷ votes) t ≡ Some w → (vote_in votes t ≡ Some w → Contains votes w × (w.term ≡ t)) → Contains (x ∷ votes) w × (w.term ≡ t)
+    go : (b : Bool) → (x.term == t) ≡ b → vote_in (x ∷ votes) t ≡ Some w → (vote_in votes t ≡ Some w → Contains votes w × (w.term ≡ t))
+        → Contains (x ∷ votes) w × (w.term ≡ t)
     go true e is ih = let u = rw e at is in let same : x ≡ w = cc in ((zero, omega arith, same), ap (λ (v : Vote). v.term) (sym same) ∙ grind (arith, nat_tests, e))
     go false e is ih = let u = rw e at is in let y = ih u in ((suc y.0.0, omega (arith, y.0.1), y.0.2), y.1)
 
@@ -49,7 +50,8 @@ none_in_term : (votes : List Vote) (t : ℕ) (w : Vote) → vote_in votes t ≡ 
 none_in_term [] t w is c e = omega (arith, c.1)
 none_in_term (x ∷ votes) t w is c e = go (x.term == t) refl is (none_in_term votes t w) (cons_cases x votes w c)
   where
-    go : (b : Bool) → (x.term == t) ≡ b → vote_in (x ∷ votes) t ≡ None → (vote_in votes t ≡ None → Contains votes w → w.term ≡ t → ⊥) → (x ≡ w) ⊎ Contains votes w → ⊥
+    go : (b : Bool) → (x.term == t) ≡ b → vote_in (x ∷ votes) t ≡ None → (vote_in votes t ≡ None → Contains votes w → w.term ≡ t → ⊥)
+        → (x ≡ w) ⊎ Contains votes w → ⊥
     go true y is ih d = let u = rw y at is in absurd cc
     go false y is ih (inl here) = let q = ap (λ (v : Vote). v.term) here in grind (arith, nat_tests, y, q, e)
     go false y is ih (inr there) = let u = rw y at is in ih u there e
@@ -72,7 +74,8 @@ refused_sent : (ring : Layout) (h : History) (id to t : ℕ) (d : Durable) → S
 refused_sent ring h id to t d = Sends_on {m = refuse_vote id to t} (λ bad. absurd (let z : false ≡ true = bad in cc)) (record { from = refl; answers = λ u v bad. absurd cc }) Sent_all
 
 -- the node's role stays through a vote that it casts
-role_cast : (ring : Layout) (h : History) (c : Cast) (floor id : ℕ) (d : Durable) (s : Soft) (r : Role) → Grows id h (with_cast h c) → HasRole h id d s r → HasRole (with_cast h c) id (done d (action.Vote c.vote floor)) s r
+role_cast : (ring : Layout) (h : History) (c : Cast) (floor id : ℕ) (d : Durable) (s : Soft) (r : Role) → Grows id h (with_cast h c) → HasRole h id d s r
+    → HasRole (with_cast h c) id (done d (action.Vote c.vote floor)) s r
 role_cast ring h c floor id d s Follower g x = tt
 role_cast ring h c floor id d s Candidate g x = record {
   self = let y = x.self in (y.0, g.casts y.0 y.1, y.2, y.3, y.4, y.5);
@@ -82,11 +85,13 @@ role_cast ring h c floor id d s Candidate g x = record {
 }
 role_cast ring h c floor id d s Leader g x = leader_at (with_cast h c) id d (done d (action.Vote c.vote floor)) s s refl (omega arith) refl (leader_stays ring id h (with_cast h c) g id d s x)
 
-module _ (ring : Layout) (h : History) (id from : ℕ) (asked : RequestVote) (d : Durable) (o s : Soft) (first : List Action) (says : List Say) (k : IsHistory ring h) (sent : IsSent ring h from id (body.RequestVote asked))
+module _ (ring : Layout) (h : History) (id from : ℕ) (asked : RequestVote) (d : Durable) (o s : Soft) (first : List Action) (says : List Say)
+    (k : IsHistory ring h) (sent : IsSent ring h from id (body.RequestVote asked))
     (p : Path ring id h d first h) (before : IsBefore ring id h h d first p) (standing : (is_leader o.role ≡ true) ⊎ (is_leader s.role ≡ false)) (n : IsNode ring h id (all_done d first)) (is_t : (all_done d first).term ≡ asked.term)
     (same_log : (all_done d first).log ≡ d.log) (same_votes : (all_done d first).votes ≡ d.votes)
     (role : HasRole h id (all_done d first) s s.role) (sealed : IsSealed ring h (all_done d first).term s.commit (all_done d first).log) (applied : (all_done d first).applied ≤ s.commit) (low : s.commit ≤ length h.chosen) where
-  quiet_standing : (m : History) (steps : List Action) (path : Path ring id h d steps m) → elected ring id h m d steps path ≡ [] → Holding ring id h m d o s steps path
+  quiet_standing : (m : History) (steps : List Action) (path : Path ring id h d steps m) → elected ring id h m d steps path ≡ []
+      → Holding ring id h m d o s steps path
   quiet_standing m steps path none = elim standing [ inl led ↦ Led_before led none | inr not_led ↦ Leads_not not_led none ]
 
   refused_row : IsRow ring h id d o (refused_now id s first says from asked.term)
@@ -102,7 +107,8 @@ module _ (ring : Layout) (h : History) (id from : ℕ) (asked : RequestVote) (d 
     holding = quiet_standing h first p (before_quiet ring id h h d first p before);
   }
 
-  kept_row : (w : Vote) → Contains (all_done d first).votes w → w.term ≡ asked.term → w.candidate ≡ from → IsRow ring h id d o (granted_now id d s first says from asked)
+  kept_row : (w : Vote) → Contains (all_done d first).votes w → w.term ≡ asked.term → w.candidate ≡ from
+      → IsRow ring h id d o (granted_now id d s first says from asked)
   kept_row w in_w w_t w_from =
       let e : Durable = all_done d first in
       let c = kept_vote ring h id e k n w from asked.last in_w (w_t ∙ sym is_t) w_from sent.0 sent.1 sent.2 sent.3 (sent.4 ∙ sym is_t) sent.5 in
@@ -120,7 +126,8 @@ module _ (ring : Layout) (h : History) (id from : ℕ) (asked : RequestVote) (d 
         holding = quiet_standing h first p (before_quiet ring id h h d first p before);
       }
 
-  cast_row : ((w : Vote) → Contains (all_done d first).votes w → w.term ≡ asked.term → ⊥) → IsUpToDate asked.last (all_done d first).log → floor_of d s ≡ term_at (all_done d first).log s.commit
+  cast_row : ((w : Vote) → Contains (all_done d first).votes w → w.term ≡ asked.term → ⊥) → IsUpToDate asked.last (all_done d first).log
+      → floor_of d s ≡ term_at (all_done d first).log s.commit
       → IsRow ring h id d o (granted_now id d s (cast_actions ring d s first from asked.term) says from asked)
   cast_row none up floor =
       let e : Durable = all_done d first in
@@ -181,7 +188,8 @@ module _ (ring : Layout) (h : History) (id from : ℕ) (asked : RequestVote) (d 
       go (Some w) is = let x = kept_in_term d.votes asked.term w is in kept w (subst (λ (v : List Vote). Contains v w) (sym same_votes) x.0, x.1) (w.candidate == from) refl
       go None is = fresh is (at_least asked.last (last d.log)) refl (has_room (floor_of d s) d.votes)
 
-pub request_row : (ring : Layout) (h : History) (id from : ℕ) (asked : RequestVote) (d : Durable) (s : Soft) → IsHistory ring h → IsNode ring h id d → IsRunning ring h id d s → IsSent ring h from id (body.RequestVote asked)
+pub request_row : (ring : Layout) (h : History) (id from : ℕ) (asked : RequestVote) (d : Durable) (s : Soft) → IsHistory ring h → IsNode ring h id d
+    → IsRunning ring h id d s → IsSent ring h from id (body.RequestVote asked)
     → IsRow ring h id d s (on_request ring id d s from asked)
 unfolding on_request
 request_row ring h id from asked d s k n r sent = voter (votes ring id)

@@ -85,11 +85,13 @@ module _ (ring : Layout) (h g : History) (id : ℕ) (d : Durable) (x : Entry) (e
         }
   ]
     where
-      place_old : (k : ℕ) → 0 < k → k ≤ length d.log → ((z : Entry) → entry_at d.log k ≡ Some z → z.opid.position ≡ k) → (z : Entry) → entry_at longer k ≡ Some z → z.opid.position ≡ k
+      place_old : (k : ℕ) → 0 < k → k ≤ length d.log → ((z : Entry) → entry_at d.log k ≡ Some z → z.opid.position ≡ k) → (z : Entry)
+          → entry_at longer k ≡ Some z → z.opid.position ≡ k
       place_old zero some le f z is = absurd (omega arith)
       place_old (suc k) some le f z is = f z (sym (get_more k d.log (x ∷ []) (omega arith)) ∙ is)
 
-  term_longer : (k : ℕ) → 0 < k → k ≤ length longer → (term_at longer k ≡ d.term) × (length d.log < k) ⊎ (term_at longer k ≡ term_at d.log k) × (k ≤ length d.log)
+  term_longer : (k : ℕ) → 0 < k → k ≤ length longer
+      → (term_at longer k ≡ d.term) × (length d.log < k) ⊎ (term_at longer k ≡ term_at d.log k) × (k ≤ length d.log)
   term_longer k some high = elim (cases_lt (length d.log) k) [
     | inl past ↦
         let is : k ≡ suc (length d.log) = omega (arith, length_push d.log x) in
@@ -120,7 +122,8 @@ module _ (ring : Layout) (h g : History) (id : ℕ) (d : Durable) (x : Entry) (e
     | Sealed_at s p a b m y ↦ Sealed_at s p a b m (agree_trans c longer d.log (g.book s) (agree_sym c d.log longer (agree_more c d.log (x ∷ []) y.left)) y)
   ]
 
-  module _ (k : IsHistory ring h) (old_casts : (c : Cast) → Contains g.casts c → Contains h.casts c) (old_messages : (m : Message) → Contains g.messages m → Contains h.messages m)
+  module _ (k : IsHistory ring h) (old_casts : (c : Cast) → Contains g.casts c → Contains h.casts c)
+      (old_messages : (m : Message) → Contains g.messages m → Contains h.messages m)
       (once : (f : Election) → Contains g.elections f → f.node ≡ id → f.term ≤ d.term) (others : (f : Election) (s : ℕ) → Contains g.elections f → f.node ≡ id → f.term ≡ s → s < d.term → (Contains h.elections f) × (g.book s ≡ h.book s)) where
     acked_old : (s p : ℕ) → HasAcked h id s p → KeepsAcked g (record d { log = longer }) s p
     acked_old s p a = elim (grow_keeps ring id h g grows k d id s p a (n.acked s p a)) [

@@ -23,7 +23,8 @@ use Rattle.ring_model.proofs.Paths.{Ends, Goes_on}
 use Rattle.ring_model.proofs.Turns.{Holding, IsRow, Leads_not, Led_before, Sends, Sends_on, Sent_all}
 use Rattle.ring_model.proofs.Advance.{leader_at, seal_raise}
 
-pub candidate_sent : (h : History) (m : Message) (id : ℕ) (d : Durable) (grants : List Grant) → IsCandidate h id d grants → IsCandidate (with_message h m) id d grants
+pub candidate_sent : (h : History) (m : Message) (id : ℕ) (d : Durable) (grants : List Grant) → IsCandidate h id d grants
+    → IsCandidate (with_message h m) id d grants
 candidate_sent h m id d grants x = record {
   self = x.self;
   below = x.below;
@@ -44,7 +45,8 @@ sealed_sent ring h m u c l (Sealed_at s p a b x y) = Sealed_at s p a b (record {
   acked = λ v in_v. elim (x.acked v in_v) [ As_leader e in_e t by le ↦ As_leader e in_e t by le | By_reply w q in_w by body le ↦ By_reply w q (Contains-append_left h.messages (m ∷ []) w in_w) by body le ];
 }) y
 
-pub role_sent : (ring : Layout) (h : History) (m : Message) (id : ℕ) (d : Durable) (s : Soft) (r : Role) → HasRole h id d s r → HasRole (with_message h m) id d s r
+pub role_sent : (ring : Layout) (h : History) (m : Message) (id : ℕ) (d : Durable) (s : Soft) (r : Role) → HasRole h id d s r
+    → HasRole (with_message h m) id d s r
 role_sent ring h m id d s Follower x = tt
 role_sent ring h m id d s Candidate x = candidate_sent h m id d s.grants x
 role_sent ring h m id d s Leader x = record {
@@ -56,16 +58,19 @@ role_sent ring h m id d s Leader x = record {
   next = x.next;
 }
 
-pub role_sends : (ring : Layout) (id : ℕ) (e : Durable) (h g : History) (ms : List Message) (d : Durable) (s : Soft) (r : Role) → Sends ring id e h ms g → HasRole h id d s r → HasRole g id d s r
+pub role_sends : (ring : Layout) (id : ℕ) (e : Durable) (h g : History) (ms : List Message) (d : Durable) (s : Soft) (r : Role) → Sends ring id e h ms g
+    → HasRole h id d s r → HasRole g id d s r
 role_sends ring id e h g [] d s r Sent_all x = x
 role_sends ring id e h g (m ∷ ms) d s r (Sends_on is may rest) x = role_sends ring id e (with_message h m) g ms d s r rest (role_sent ring h m id d s r x)
 
-pub sealed_sends : (ring : Layout) (id : ℕ) (e : Durable) (h g : History) (ms : List Message) (u c : ℕ) (l : List Entry) → Sends ring id e h ms g → IsSealed ring h u c l → IsSealed ring g u c l
+pub sealed_sends : (ring : Layout) (id : ℕ) (e : Durable) (h g : History) (ms : List Message) (u c : ℕ) (l : List Entry) → Sends ring id e h ms g
+    → IsSealed ring h u c l → IsSealed ring g u c l
 sealed_sends ring id e h g [] u c l Sent_all x = x
 sealed_sends ring id e h g (m ∷ ms) u c l (Sends_on is may rest) x = sealed_sends ring id e (with_message h m) g ms u c l rest (sealed_sent ring h m u c l x)
 
 -- one more message
-pub sends_more : (ring : Layout) (id : ℕ) (e : Durable) (h g : History) (ms : List Message) (m : Message) → Sends ring id e h ms g → IsSent ring g m.from m.to m.body → MayAnswer g id e m → Sends ring id e h (ms ++ m ∷ []) (with_message g m)
+pub sends_more : (ring : Layout) (id : ℕ) (e : Durable) (h g : History) (ms : List Message) (m : Message) → Sends ring id e h ms g
+    → IsSent ring g m.from m.to m.body → MayAnswer g id e m → Sends ring id e h (ms ++ m ∷ []) (with_message g m)
 sends_more ring id e h g [] m Sent_all is may = Sends_on {m = m} is may Sent_all
 sends_more ring id e h g (x ∷ ms) m (Sends_on a b rest) is may = Sends_on {m = x} a b (sends_more ring id e (with_message h x) g ms m rest is may)
 
@@ -89,7 +94,8 @@ pub record IsSayable (ring : Layout) (h : History) (id : ℕ) (m : Message) : Ty
   pub from : m.from ≡ id
   pub never : (s q : ℕ) → m.body ≡ ok_reply s q → ⊥
 
-pub sends_all : (ring : Layout) (id : ℕ) (d : Durable) (h : History) (ms : List Message) → IsHistory ring h → IsNode ring h id d → ((m : Message) → Contains ms m → IsSayable ring h id m)
+pub sends_all : (ring : Layout) (id : ℕ) (d : Durable) (h : History) (ms : List Message) → IsHistory ring h → IsNode ring h id d
+    → ((m : Message) → Contains ms m → IsSayable ring h id m)
     → (g : History) × Sends ring id d h ms g
 sends_all ring id d h [] k n each = (h, Sent_all)
 sends_all ring id d h (m ∷ ms) k n each =
@@ -105,8 +111,10 @@ pub idle_row : (ring : Layout) (h : History) (id : ℕ) (d : Durable) (s : Soft)
 idle_row ring h id d s r = record { acted = h; path = Ends; sent = h; sends = Sent_all; role = r.role; sealed = r.sealed; applied = r.applied; reaches = inl r.chosen; holding = stays_holding ring id h d s s refl }
 
 -- a step without actions that keeps role and commit count
-pub plain_row : (ring : Layout) (h : History) (id : ℕ) (d : Durable) (s o : Soft) (ms : List Message) (says : List Say) → IsHistory ring h → IsNode ring h id d → IsRunning ring h id d s
-    → o.role ≡ s.role → o.commit ≡ s.commit → HasRole h id d o s.role → ((m : Message) → Contains ms m → IsSayable ring h id m) → IsRow ring h id d s (stepped [] ms says o)
+pub plain_row : (ring : Layout) (h : History) (id : ℕ) (d : Durable) (s o : Soft) (ms : List Message) (says : List Say) → IsHistory ring h
+    → IsNode ring h id d → IsRunning ring h id d s
+    → o.role ≡ s.role → o.commit ≡ s.commit → HasRole h id d o s.role → ((m : Message) → Contains ms m → IsSayable ring h id m)
+    → IsRow ring h id d s (stepped [] ms says o)
 plain_row ring h id d s o ms says k n r same count role each =
     let x = sends_all ring id d h ms k n each in
     record {
@@ -122,7 +130,8 @@ plain_row ring h id d s o ms says k n r same count role each =
     }
 
 -- a greater term: the node takes it and follows
-pub raise_row : (ring : Layout) (h : History) (id t : ℕ) (d : Durable) (s : Soft) → d.term < t → IsRunning ring h id d s → IsRow ring h id d s (stepped (action.SetTerm t ∷ []) [] (unknowns s) (demoted s))
+pub raise_row : (ring : Layout) (h : History) (id t : ℕ) (d : Durable) (s : Soft) → d.term < t → IsRunning ring h id d s
+    → IsRow ring h id d s (stepped (action.SetTerm t ∷ []) [] (unknowns s) (demoted s))
 raise_row ring h id t d s up r = record {
   acted = h;
   path = Goes_on (Raises t refl up (omega (arith, r.applied, r.chosen)) refl) Ends;

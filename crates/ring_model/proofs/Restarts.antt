@@ -8,7 +8,8 @@ use Rattle.ring_model.specs.Nodes.{stray_opids}
 use Rattle.ring_model.specs.Worlds.{restart_actions}
 
 -- what holds before a restart and after its drop holds wherever it was cut
-pub partly : (P : Durable → Type 0) (d : Durable) → P d → ((opids : List Opid) → stray_opids d ≡ opids → P (done d (action.DropPairs opids))) → (count : ℕ) → P (all_done d (take count (restart_actions d)))
+pub partly : (P : Durable → Type 0) (d : Durable) → P d → ((opids : List Opid) → stray_opids d ≡ opids → P (done d (action.DropPairs opids))) → (count : ℕ)
+    → P (all_done d (take count (restart_actions d)))
 partly P d before after count = go (stray_opids d) refl count
   where
     go : (o : List Opid) → stray_opids d ≡ o → (n : ℕ) → P (all_done d (take n (elim o [ [] ↦ [] | o ∷ opids ↦ action.DropPairs (o ∷ opids) ∷ [] ])))

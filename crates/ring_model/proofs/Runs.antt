@@ -19,7 +19,8 @@ use Rattle.ring_model.proofs.Carried.{Joined, carried_join}
 use Rattle.ring_model.proofs.Events.{event_over, line_whole}
 use Rattle.ring_model.proofs.FirstWorld.{first_history, first_holds, first_told}
 
-pub run_over : (ring : Layout) (w : WorldState) (h : History) (run : List Move) → IsWorld ring w h → Joined ring w (world_from ring w run) h (elections_from ring w run)
+pub run_over : (ring : Layout) (w : WorldState) (h : History) (run : List Move) → IsWorld ring w h
+    → Joined ring w (world_from ring w run) h (elections_from ring w run)
 run_over ring w h [] k = record {
   after = h;
   world = k;
@@ -34,7 +35,8 @@ run_over ring w h (m ∷ run) k =
     carried_join ring w (world_step ring w m.event m.completion) (world_from ring (world_step ring w m.event m.completion) run) h (event_elections ring w m) (elections_from ring (world_step ring w m.event m.completion) run) (acting w m.event.what) x
     (run_over ring (world_step ring w m.event m.completion) x.joined.after run x.joined.world)
 
-world_join : (ring : Layout) (w : WorldState) (before after : List Move) → world_from ring w (before ++ after) ≡ world_from ring (world_from ring w before) after
+world_join : (ring : Layout) (w : WorldState) (before after : List Move)
+    → world_from ring w (before ++ after) ≡ world_from ring (world_from ring w before) after
 world_join ring w [] after = refl
 world_join ring w (m ∷ before) after = world_join ring (world_step ring w m.event m.completion) before after
 
@@ -108,7 +110,8 @@ logs_match ring run valid i j position some in_i in_j same =
 chosen_grows : (ring : Layout) (run : List Move) → IsRing ring → ChosenOnlyGrows ring run
 chosen_grows ring run valid before after is = (two_worlds ring before after run valid is).chosen
 
-elections_join : (ring : Layout) (w : WorldState) (before after : List Move) → elections_from ring w (before ++ after) ≡ elections_from ring w before ++ elections_from ring (world_from ring w before) after
+elections_join : (ring : Layout) (w : WorldState) (before after : List Move)
+    → elections_from ring w (before ++ after) ≡ elections_from ring w before ++ elections_from ring (world_from ring w before) after
 elections_join ring w [] after = refl
 elections_join ring w (m ∷ before) after =
     ap (λ (e : List Election). event_elections ring w m ++ e) (elections_join ring (world_step ring w m.event m.completion) before after)

@@ -36,7 +36,8 @@ sends_hold ring id d h g (m ∷ ms) k n (Sends_on sends may rest) =
     )
 
 -- ---- the elections of a step
-held_in_cut : (ring : Layout) (id : ℕ) (h g : History) (d : Durable) (s : Soft) (st : Step) (path : Path ring id h d st.plan.actions g) (count : ℕ) → Holding ring id h g d s st.soft st.plan.actions path
+held_in_cut : (ring : Layout) (id : ℕ) (h g : History) (d : Durable) (s : Soft) (st : Step) (path : Path ring id h d st.plan.actions g) (count : ℕ)
+    → Holding ring id h g d s st.soft st.plan.actions path
     → elected ring id h (path_cut ring id h g d st.plan.actions count path).0 d (take count st.plan.actions) (path_cut ring id h g d st.plan.actions count path).1 ≡ held_by id d s st (Cut count)
 held_in_cut ring id h g d s st path count (Led_before led none) = quiet_cut ring id h g d st.plan.actions count path none ∙ sym (rw led refl)
 held_in_cut ring id h g d s st path count (Leads_not led none) = quiet_cut ring id h g d st.plan.actions count path none ∙ sym (go (is_leader s.role) refl)
@@ -46,7 +47,8 @@ held_in_cut ring id h g d s st path count (Leads_not led none) = quiet_cut ring 
     go false is = rw (is, led) refl
 held_in_cut ring id h g d s st path count (Leads_now was is held) = held_cut ring id h g d st.plan.actions st.soft.grants count path held ∙ sym (rw (was, is) refl)
 
-held_in_whole : (ring : Layout) (id : ℕ) (h g : History) (d : Durable) (s : Soft) (st : Step) (path : Path ring id h d st.plan.actions g) → Holding ring id h g d s st.soft st.plan.actions path
+held_in_whole : (ring : Layout) (id : ℕ) (h g : History) (d : Durable) (s : Soft) (st : Step) (path : Path ring id h d st.plan.actions g)
+    → Holding ring id h g d s st.soft st.plan.actions path
     → elected ring id h g d st.plan.actions path ≡ held_by id d s st Whole
 held_in_whole ring id h g d s st path (Led_before led none) = none ∙ sym (rw led refl)
 held_in_whole ring id h g d s st path (Leads_not led none) = none ∙ sym (go (is_leader s.role) refl)
@@ -61,7 +63,8 @@ sends_books : (ring : Layout) (id : ℕ) (d : Durable) (h g : History) (ms : Lis
 sends_books ring id d h g [] Sent_all t = refl
 sends_books ring id d h g (m ∷ ms) (Sends_on sends may rest) t = sends_books ring id d (with_message h m) g ms rest t
 
-same_books : (h g f : History) (d : Durable) (steps : List Action) → ((t : ℕ) → f.book t ≡ g.book t) → f.elections ≡ g.elections → BooksGo h g d steps → BooksGo h f d steps
+same_books : (h g f : History) (d : Durable) (steps : List Action) → ((t : ℕ) → f.book t ≡ g.book t) → f.elections ≡ g.elections → BooksGo h g d steps
+    → BooksGo h f d steps
 same_books h g f d steps book held x e in_e = elim (x e (subst (λ (l : List Election). Contains l e) held in_e)) [
   | inl old ↦ inl (old.0, book e.term ∙ old.1)
   | inr new ↦ inr (new.0, book e.term ∙ new.1)
@@ -91,7 +94,8 @@ whole_keeps ring w h id s st k row =
     })
 
 -- a cut step: the first of the actions, and the node is down
-pub cut_keeps : (ring : Layout) (w : WorldState) (h : History) (id count : ℕ) (s : Soft) (st : Step) → IsWorld ring w h → IsRow ring h id (w.nodes id).durable s st
+pub cut_keeps : (ring : Layout) (w : WorldState) (h : History) (id count : ℕ) (s : Soft) (st : Step) → IsWorld ring w h
+    → IsRow ring h id (w.nodes id).durable s st
     → TurnedTo ring w (ended w id (w.nodes id).durable st (Cut count)) h id (held_by id (w.nodes id).durable s st (Cut count)) (take count st.plan.actions)
 cut_keeps ring w h id count s st k row =
     let d = (w.nodes id).durable in
@@ -114,7 +118,8 @@ cut_keeps ring w h id count s st k row =
     })
 
 -- a turn without a step leaves a follower or a node that is down, with its prepared pairs as they were or fewer
-still_keeps : (ring : Layout) (w : WorldState) (h : History) (id : ℕ) (n : Node) (cuts : List ℕ) → SameLog (w.nodes id).durable n.durable → reach n ≡ n.durable.applied
+still_keeps : (ring : Layout) (w : WorldState) (h : History) (id : ℕ) (n : Node) (cuts : List ℕ) → SameLog (w.nodes id).durable n.durable
+    → reach n ≡ n.durable.applied
     → ((s : Soft) → n.soft ≡ Some s → s.role ≡ Follower) → IsWorld ring w h → TurnedTo ring w (turned w id n [] [] cuts) h id [] []
 still_keeps ring w h id n cuts same low follower k =
     let kept = same_node ring h id (w.nodes id).durable n.durable same (k.nodes id) in
@@ -142,5 +147,6 @@ pub restart_keeps : (ring : Layout) (w : WorldState) (h : History) (id : ℕ) �
     → TurnedTo ring w (turned w id (record { durable = recover (w.nodes id).durable; soft = Some (fresh_soft (w.nodes id).durable) }) [] [] []) h id [] []
 restart_keeps ring w h id k =
     let d = (w.nodes id).durable in
-    still_keeps ring w h id (record { durable = recover d; soft = Some (fresh_soft d) }) [] (record { term = refl; votes = refl; log = refl; applied = refl }) refl
+    let same : SameLog d (recover d) = record { term = refl; votes = refl; log = refl; applied = refl } in
+    still_keeps ring w h id (record { durable = recover d; soft = Some (fresh_soft d) }) [] same refl
     (λ s so. let is : fresh_soft d ≡ s = cc in ap (λ (o : Soft). o.role) (sym is)) k

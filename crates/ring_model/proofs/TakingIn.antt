@@ -53,14 +53,16 @@ module _ (ring : Layout) (h : History) (id : ℕ) (e : Durable) (k : IsHistory r
     (leader : ℕ) (prev : Opid) (mc : ℕ) (es : List Entry) (s : IsStretch ring h e.term leader prev mc (length es)) (win : take (length es) (drop prev.position (h.book e.term)) ≡ es)
     (foreign : leader ≡ id → ⊥) (a : Agree prev.position e.log (h.book e.term)) (c : ℕ) (sealed : IsSealed ring h e.term c e.log) where
   -- the log with what it did not keep: everything up to a conflict stays
-  final_follows : (kept : ℕ) (rest : List Entry) → kept ≤ length e.log → (0 < length rest → kept < length e.log → term_at e.log (suc kept) ≡ term_at (h.book e.term) (suc kept) → ⊥) → 0 < length rest
+  final_follows : (kept : ℕ) (rest : List Entry) → kept ≤ length e.log
+      → (0 < length rest → kept < length e.log → term_at e.log (suc kept) ≡ term_at (h.book e.term) (suc kept) → ⊥) → 0 < length rest
       → IsFollowed e.log (take kept e.log ++ rest) (h.book e.term)
   final_follows kept rest le conflict some j in_j = elim (cases_lt kept j) [
     | inl lt ↦ inr (λ x. conflict some (omega arith) (agree_term (suc kept) j e.log (h.book e.term) (omega arith) x))
     | inr ge ↦ inl (agree_trans j e.log (take kept e.log) (take kept e.log ++ rest) (agree_take j kept e.log ge le) (agree_more j (take kept e.log) rest (omega (arith, length-take-le kept e.log le))))
   ]
 
-  pub taken_in : (rest : List Entry) → rest ≡ unmatched e.log prev.position es → TakenIn ring id h e (take_in ring id e (kept_position prev es rest) rest) (prev.position + length es) c
+  pub taken_in : (rest : List Entry) → rest ≡ unmatched e.log prev.position es
+      → TakenIn ring id h e (take_in ring id e (kept_position prev es rest) rest) (prev.position + length es) c
   taken_in [] is = record {
     path = Ends;
     quiet = refl;
@@ -136,7 +138,8 @@ module _ (ring : Layout) (h : History) (id : ℕ) (e : Durable) (k : IsHistory r
             sealed = subst (λ (l : List Entry). IsSealed ring h e.term c l) (sym log_is) new_sealed;
           }
 
-      go : (b : Bool) → nat_lt (kept_position prev es (x ∷ rest)) (length e.log) ≡ b → TakenIn ring id h e (take_in ring id e (kept_position prev es (x ∷ rest)) (x ∷ rest)) (prev.position + length es) c
+      go : (b : Bool) → nat_lt (kept_position prev es (x ∷ rest)) (length e.log) ≡ b
+          → TakenIn ring id h e (take_in ring id e (kept_position prev es (x ∷ rest)) (x ∷ rest)) (prev.position + length es) c
       go true y = rw y (rw kept_is cut)
       go false y =
           let all : take m.kept e.log ≡ e.log = (let z : length e.log ≤ kept_position prev es (x ∷ rest) = grind (arith, nat_tests, y) in take_all m.kept e.log (omega (arith, kept_is, z))) in

@@ -43,7 +43,8 @@ use Rattle.ring_model.proofs.HeldElections.{done_join}
 use Rattle.ring_model.proofs.TellingLeader.{AreOther, KeepsPending, Tells, advance_tells, empty_tells, idle_tells, no_says, one_say, same_tells, unknowns_other}
 
 -- ---- elections
-ask_tells : (ring : Layout) (me : ℕ) (d : Durable) (s : Soft) (first : List Action) (says : List Say) (grants : List Grant) (asks : List Message) → s.pending ≡ [] → AreOther says → Tells d (lead_or_ask ring me d s first says grants asks)
+ask_tells : (ring : Layout) (me : ℕ) (d : Durable) (s : Soft) (first : List Action) (says : List Say) (grants : List Grant) (asks : List Message)
+    → s.pending ≡ [] → AreOther says → Tells d (lead_or_ask ring me d s first says grants asks)
 unfolding lead_or_ask
 ask_tells ring me d s first says grants asks none other = go (has_won ring me (all_done d first) grants)
   where
@@ -69,7 +70,8 @@ timeout_tells ring me d s term k = go (term == d.term && votes ring me && not (i
     go false = idle_tells d s k
 
 -- the answer of a voter, after actions that leave the log
-answer_tells : (ring : Layout) (me : ℕ) (d : Durable) (s : Soft) (first : List Action) (says : List Say) (from : ℕ) (asked : RequestVote) → KeepsPending d.log s → (all_done d first).log ≡ d.log → AreOther says
+answer_tells : (ring : Layout) (me : ℕ) (d : Durable) (s : Soft) (first : List Action) (says : List Say) (from : ℕ) (asked : RequestVote)
+    → KeepsPending d.log s → (all_done d first).log ≡ d.log → AreOther says
     → Tells d (answer_request ring me d s first says from asked)
 answer_tells ring me d s first says from asked k log other = go (vote_in d.votes asked.term)
   where
@@ -95,7 +97,8 @@ answer_tells ring me d s first says from asked k log other = go (vote_in d.votes
 demoted_keeps : (log : List Entry) (s : Soft) → KeepsPending log (demoted s)
 demoted_keeps log s = record { none = λ is. refl; each = λ p in_p. absurd (none_contained p in_p) }
 
-pub request_tells : (ring : Layout) (me from : ℕ) (d : Durable) (s : Soft) (asked : RequestVote) → KeepsPending d.log s → Tells d (on_request ring me d s from asked)
+pub request_tells : (ring : Layout) (me from : ℕ) (d : Durable) (s : Soft) (asked : RequestVote) → KeepsPending d.log s
+    → Tells d (on_request ring me d s from asked)
 unfolding on_request
 request_tells ring me from d s asked k = go (votes ring me) (nat_lt asked.term d.term) (nat_lt d.term asked.term)
   where
@@ -122,7 +125,8 @@ reply_tells ring me from d s reply k = go s.role refl (nat_lt d.term reply.term)
     go Candidate is false false = idle_tells d s k
 
 -- ---- the mock election
-pub mock_start_tells : (ring : Layout) (me from : ℕ) (d : Durable) (s : Soft) (sent : MockStart) → KeepsPending d.log s → Tells d (on_mock_start ring me d s from sent)
+pub mock_start_tells : (ring : Layout) (me from : ℕ) (d : Durable) (s : Soft) (sent : MockStart) → KeepsPending d.log s
+    → Tells d (on_mock_start ring me d s from sent)
 unfolding on_mock_start
 mock_start_tells ring me from d s sent k = go (sent.term == d.term && votes ring me && is_follower s.role && not (is_old_round s.mock from sent.round))
   where
@@ -130,7 +134,8 @@ mock_start_tells ring me from d s sent k = go (sent.term == d.term && votes ring
     go true = same_tells d s (record s { mock = mock.On from sent.round sent.last (own_passed me d sent) (own_failed me d sent) }) [] (opening ring me d from sent) [] k refl refl refl no_says
     go false = idle_tells d s k
 
-pub mock_request_tells : (ring : Layout) (me from : ℕ) (d : Durable) (s : Soft) (sent : MockRequest) → KeepsPending d.log s → Tells d (on_mock_request ring me d s from sent)
+pub mock_request_tells : (ring : Layout) (me from : ℕ) (d : Durable) (s : Soft) (sent : MockRequest) → KeepsPending d.log s
+    → Tells d (on_mock_request ring me d s from sent)
 unfolding on_mock_request
 mock_request_tells ring me from d s sent k = go (sent.term == d.term && votes ring me)
   where
@@ -138,12 +143,14 @@ mock_request_tells ring me from d s sent k = go (sent.term == d.term && votes ri
     go true = same_tells d s s [] (message me from (body.MockReply (record { term = d.term; round = sent.round; ok = passes d sent.last })) ∷ []) [] k refl refl refl no_says
     go false = idle_tells d s k
 
-with_answer_tells : (ring : Layout) (me : ℕ) (d : Durable) (s : Soft) (leader round : ℕ) (asked : Opid) (passed failed more_passed more_failed : List ℕ) → KeepsPending d.log s
+with_answer_tells : (ring : Layout) (me : ℕ) (d : Durable) (s : Soft) (leader round : ℕ) (asked : Opid) (passed failed more_passed more_failed : List ℕ)
+    → KeepsPending d.log s
     → Tells d (with_answer ring me d s leader round asked passed failed more_passed more_failed)
 with_answer_tells ring me d s leader round asked passed failed more_passed more_failed k =
     same_tells d s (record s { mock = mock.On leader round asked more_passed more_failed }) [] (deciding me leader d.term round (verdict ring leader me passed failed) (verdict ring leader me more_passed more_failed)) [] k refl refl refl no_says
 
-mock_tells : (ring : Layout) (me from : ℕ) (d : Durable) (s : Soft) (answer : MockReply) (held : Mock) → KeepsPending d.log s → Tells d (mock_hears ring me d s from answer held)
+mock_tells : (ring : Layout) (me from : ℕ) (d : Durable) (s : Soft) (answer : MockReply) (held : Mock) → KeepsPending d.log s
+    → Tells d (mock_hears ring me d s from answer held)
 mock_tells ring me from d s answer mock.Off k = idle_tells d s k
 mock_tells ring me from d s answer (mock.On leader round asked passed failed) k = go (answer.term == d.term && answer.round == round) (is_listed passed from || is_listed failed from) answer.ok
   where
@@ -155,7 +162,8 @@ mock_tells ring me from d s answer (mock.On leader round asked passed failed) k 
     go true false true = with_answer_tells ring me d s leader answer.round asked passed failed (passed ++ from ∷ []) failed k
     go true false false = with_answer_tells ring me d s leader answer.round asked passed failed passed (failed ++ from ∷ []) k
 
-pub mock_reply_tells : (ring : Layout) (me from : ℕ) (d : Durable) (s : Soft) (answer : MockReply) → KeepsPending d.log s → Tells d (on_mock_reply ring me d s from answer)
+pub mock_reply_tells : (ring : Layout) (me from : ℕ) (d : Durable) (s : Soft) (answer : MockReply) → KeepsPending d.log s
+    → Tells d (on_mock_reply ring me d s from answer)
 unfolding on_mock_reply
 mock_reply_tells ring me from d s answer k = mock_tells ring me from d s answer s.mock k
 

@@ -47,7 +47,8 @@ beat_tells ring me d s k = go (is_leader s.role)
     go true = same_tells d s (record s { peers = map quieter s.peers }) [] (map (beat_to ring me d s) s.peers) [] k refl refl refl no_says
     go false = idle_tells d s k
 
-match_tells : (ring : Layout) (me : ℕ) (d : Durable) (s : Soft) (first : List Action) (says : List Say) (sent : Append) → s.pending ≡ [] → AreOther says → Tells d (match_append ring me d s first says sent)
+match_tells : (ring : Layout) (me : ℕ) (d : Durable) (s : Soft) (first : List Action) (says : List Say) (sent : Append) → s.pending ≡ [] → AreOther says
+    → Tells d (match_append ring me d s first says sent)
 match_tells ring me d s first says sent none other = go (nat_lt (length d.log) sent.prev.position) (term_at d.log sent.prev.position == sent.prev.term)
   where
     last_matched : ℕ
@@ -94,7 +95,8 @@ ack_tells ring me from d s answer k = go (nat_lt d.term answer.term) s.role refl
     go false o is u false c = idle_tells d s k
     go false o is u true c = advance_tells ring me d (record s { peers = heard_among s.peers from answer.ok answer.position }) [] [] (ap is_leader (counted d s answer c).leads) k.each no_says
 
-pub answered_tells : (ring : Layout) (me from : ℕ) (d : Durable) (s : Soft) (answer : AppendReply) → KeepsPending d.log s → Tells d (on_answer ring me d s from answer)
+pub answered_tells : (ring : Layout) (me from : ℕ) (d : Durable) (s : Soft) (answer : AppendReply) → KeepsPending d.log s
+    → Tells d (on_answer ring me d s from answer)
 unfolding on_answer
 answered_tells ring me from d s answer k = go (counts d s answer && answer.ok)
   where
@@ -113,7 +115,8 @@ refused_tells d s client c k = same_tells d s s [] [] (record { client = client;
 more_stands : (l r : List Entry) (gtid : Gtid) (opid : Opid) → IsEntryFor l gtid opid → IsEntryFor (l ++ r) gtid opid
 more_stands l r gtid opid x = record { entry = x.entry; at = entry_more l r opid.position x.entry x.at; named = x.named; numbered = x.numbered }
 
-pub write_tells : (ring : Layout) (me client : ℕ) (d : Durable) (s : Soft) (changes : List Change) → KeepsPending d.log s → Tells d (write ring me d s client changes)
+pub write_tells : (ring : Layout) (me client : ℕ) (d : Durable) (s : Soft) (changes : List Change) → KeepsPending d.log s
+    → Tells d (write ring me d s client changes)
 unfolding write
 write_tells ring me client d s changes k = go (write_refusal ring me d s changes) refl
   where
@@ -134,7 +137,8 @@ pub rotate_tells : (ring : Layout) (me client : ℕ) (d : Durable) (s : Soft) �
 unfolding rotate
 rotate_tells ring me client d s k = go (rotate_refusal ring me d s) refl
   where
-    go : (c : Option Cause) → rotate_refusal ring me d s ≡ c → Tells d (elim c [ Some c ↦ refused s client c | None ↦ rotate_step ring me d s client (own_entry ring me d payload.Rotate) ])
+    go : (c : Option Cause) → rotate_refusal ring me d s ≡ c
+        → Tells d (elim c [ Some c ↦ refused s client c | None ↦ rotate_step ring me d s client (own_entry ring me d payload.Rotate) ])
     go (Some c) is = refused_tells d s client c k
     go None is =
         let e : Entry = own_entry ring me d payload.Rotate in

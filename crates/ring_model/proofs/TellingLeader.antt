@@ -46,7 +46,8 @@ pub record MayTell (d : Durable) (s : Soft) (gtid : Gtid) (opid : Opid) (term : 
 
 pub record Tells (d : Durable) (st : Step) : Type 0 where
   pub pending : KeepsPending (all_done d st.plan.actions).log st.soft
-  pub says : (x : Say) → Contains st.plan.says x → (gtid : Gtid) (opid : Opid) (term : ℕ) → x.what ≡ what.Committed gtid opid term → MayTell (all_done d st.plan.actions) st.soft gtid opid term
+  pub says : (x : Say) → Contains st.plan.says x → (gtid : Gtid) (opid : Opid) (term : ℕ) → x.what ≡ what.Committed gtid opid term
+      → MayTell (all_done d st.plan.actions) st.soft gtid opid term
 
 -- none of these says that a write is committed
 abbrev pub AreOther : List Say → Type 0
@@ -65,7 +66,8 @@ unknowns_other s x in_x gtid opid term is =
     absurd cc
 
 -- ---- steps that leave or empty what waits
-pub same_tells : (d : Durable) (s o : Soft) (actions : List Action) (ms : List Message) (says : List Say) → KeepsPending d.log s → (all_done d actions).log ≡ d.log → o.role ≡ s.role → o.pending ≡ s.pending → AreOther says → Tells d (stepped actions ms says o)
+pub same_tells : (d : Durable) (s o : Soft) (actions : List Action) (ms : List Message) (says : List Say) → KeepsPending d.log s
+    → (all_done d actions).log ≡ d.log → o.role ≡ s.role → o.pending ≡ s.pending → AreOther says → Tells d (stepped actions ms says o)
 same_tells d s o actions ms says k log role pending other = record {
   pending = record {
     none = λ is. pending ∙ k.none (ap is_leader (sym role) ∙ is);
@@ -74,7 +76,8 @@ same_tells d s o actions ms says k log role pending other = record {
   says = λ x in_x gtid opid term is. absurd (other x in_x gtid opid term is);
 }
 
-pub empty_tells : (d : Durable) (o : Soft) (actions : List Action) (ms : List Message) (says : List Say) → o.pending ≡ [] → AreOther says → Tells d (stepped actions ms says o)
+pub empty_tells : (d : Durable) (o : Soft) (actions : List Action) (ms : List Message) (says : List Say) → o.pending ≡ [] → AreOther says
+    → Tells d (stepped actions ms says o)
 empty_tells d o actions ms says none other = record {
   pending = record {
     none = λ is. none;
@@ -122,7 +125,8 @@ settled_inside c p is = grind (arith, nat_tests, is)
 committed_is : (a b c : Gtid) (o q : Opid) (t u : ℕ) → what.Committed a o t ≡ what.Committed b q u → (a ≡ b) × (o ≡ q) × (t ≡ u)
 committed_is a b c o q t u is = (cc, cc, cc)
 
-pub advance_tells : (ring : Layout) (me : ℕ) (d : Durable) (s : Soft) (first : List Action) (says : List Say) → is_leader s.role ≡ true → ((p : Pending) → Contains s.pending p → IsEntryFor (all_done d first).log p.gtid p.opid) → AreOther says
+pub advance_tells : (ring : Layout) (me : ℕ) (d : Durable) (s : Soft) (first : List Action) (says : List Say) → is_leader s.role ≡ true
+    → ((p : Pending) → Contains s.pending p → IsEntryFor (all_done d first).log p.gtid p.opid) → AreOther says
     → Tells d (advance ring me d s first says)
 unfolding advance
 advance_tells ring me d s first says leads each other =

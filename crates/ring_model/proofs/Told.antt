@@ -48,7 +48,8 @@ entry_agree k a b x = sym (entry_at_take k k a (omega arith)) ∙ (ap (λ (w : L
 stands_in_both : (a b : List Entry) (gtid : Gtid) (opid : Opid) → Agree opid.position a b → IsEntryFor a gtid opid → IsEntryFor b gtid opid
 stands_in_both a b gtid opid x y = record { entry = y.entry; at = sym (entry_agree opid.position a b x) ∙ y.at; named = y.named; numbered = y.numbered }
 
-told_grows : (ring : Layout) (id : ℕ) (h g : History) → Grows id h g → (gtid : Gtid) (opid : Opid) (term : ℕ) → IsToldOf ring h gtid opid term → IsToldOf ring g gtid opid term
+told_grows : (ring : Layout) (id : ℕ) (h g : History) → Grows id h g → (gtid : Gtid) (opid : Opid) (term : ℕ) → IsToldOf ring h gtid opid term
+    → IsToldOf ring g gtid opid term
 told_grows ring id h g grows gtid opid term x =
     let within : opid.position ≤ length (h.book term) = seal_within ring h term opid.position (h.book term) x.sealed in
     record {
@@ -66,7 +67,8 @@ pub record HoldsTold (ring : Layout) (w : WorldState) (h : History) : Type 0 whe
   pub told : (gtid : Gtid) (opid : Opid) (term : ℕ) → IsTold w gtid opid term → IsToldOf ring h gtid opid term
 
 -- what a running leader may say is told
-telling_holds : (ring : Layout) (w : WorldState) (h : History) (id : ℕ) (s : Soft) (gtid : Gtid) (opid : Opid) (term : ℕ) → IsWorld ring w h → (w.nodes id).soft ≡ Some s → MayTell (w.nodes id).durable s gtid opid term → IsToldOf ring h gtid opid term
+telling_holds : (ring : Layout) (w : WorldState) (h : History) (id : ℕ) (s : Soft) (gtid : Gtid) (opid : Opid) (term : ℕ) → IsWorld ring w h
+    → (w.nodes id).soft ≡ Some s → MayTell (w.nodes id).durable s gtid opid term → IsToldOf ring h gtid opid term
 telling_holds ring w h id s gtid opid term k up may =
     let d : Durable = (w.nodes id).durable in
     let r = k.running id s up in
@@ -86,7 +88,8 @@ telling_holds ring w h id s gtid opid term k up may =
     leader_role h id d s Candidate is leads x = absurd (let z : false ≡ true = sym (ap is_leader is) ∙ leads in cc)
     leader_role h id d s Leader is leads x = x
 
-pub told_by_turn : (ring : Layout) (w : WorldState) (h : History) (id : ℕ) (n : Node) (ms : List Message) (says : List Say) (cuts : List ℕ) (held : List Election) (acts : List Action) (x : TurnedTo ring w (turned w id n ms says cuts) h id held acts)
+pub told_by_turn : (ring : Layout) (w : WorldState) (h : History) (id : ℕ) (n : Node) (ms : List Message) (says : List Say) (cuts : List ℕ)
+    (held : List Election) (acts : List Action) (x : TurnedTo ring w (turned w id n ms says cuts) h id held acts)
     → ((s : Soft) → n.soft ≡ Some s → KeepsPending n.durable.log s)
     → ((y : Say) → Contains says y → (gtid : Gtid) (opid : Opid) (term : ℕ) → y.what ≡ what.Committed gtid opid term → (s : Soft) × (n.soft ≡ Some s) × MayTell n.durable s gtid opid term)
     → HoldsTold ring w h → HoldsTold ring (turned w id n ms says cuts) x.after
@@ -112,7 +115,8 @@ told_by_turn ring w h id n ms says cuts held acts x waits tells t = record {
 }
 
 -- a step that went to its end
-pub told_by_step : (ring : Layout) (w : WorldState) (h : History) (id : ℕ) (st : Step) (held : List Election) (acts : List Action) (x : TurnedTo ring w (ended w id (w.nodes id).durable st Whole) h id held acts) → Tells (w.nodes id).durable st
+pub told_by_step : (ring : Layout) (w : WorldState) (h : History) (id : ℕ) (st : Step) (held : List Election) (acts : List Action)
+    (x : TurnedTo ring w (ended w id (w.nodes id).durable st Whole) h id held acts) → Tells (w.nodes id).durable st
     → HoldsTold ring w h → HoldsTold ring (ended w id (w.nodes id).durable st Whole) x.after
 told_by_step ring w h id st held acts x tells t =
     told_by_turn ring w h id (record { durable = all_done (w.nodes id).durable st.plan.actions; soft = Some st.soft }) st.plan.messages st.plan.says [] held acts x
@@ -120,7 +124,8 @@ told_by_step ring w h id st held acts x tells t =
     (λ y in_y gtid opid term is. (st.soft, refl, tells.says y in_y gtid opid term is)) t
 
 -- a node that goes down, or comes up, says nothing, and nothing waits
-pub told_by_silence : (ring : Layout) (w : WorldState) (h : History) (id : ℕ) (n : Node) (cuts : List ℕ) (held : List Election) (acts : List Action) (x : TurnedTo ring w (turned w id n [] [] cuts) h id held acts)
+pub told_by_silence : (ring : Layout) (w : WorldState) (h : History) (id : ℕ) (n : Node) (cuts : List ℕ) (held : List Election) (acts : List Action)
+    (x : TurnedTo ring w (turned w id n [] [] cuts) h id held acts)
     → ((s : Soft) → n.soft ≡ Some s → s.pending ≡ []) → HoldsTold ring w h → HoldsTold ring (turned w id n [] [] cuts) x.after
 told_by_silence ring w h id n cuts held acts x none t =
     told_by_turn ring w h id n [] [] cuts held acts x
@@ -142,7 +147,8 @@ leader_in ring w h id s k leads = go s.role refl (k.running id s leads.0).role
     go Candidate is x = absurd (let z : false ≡ true = sym (ap is_leader is) ∙ leads.1 in cc)
     go Leader is x = x
 
-pub sealed_in_book : (ring : Layout) (h : History) (u c t : ℕ) (l : List Entry) (e : Election) → IsHistory ring h → Contains h.elections e → e.term ≡ t → u ≤ t → IsSealed ring h u c l → Agree c l (h.book t)
+pub sealed_in_book : (ring : Layout) (h : History) (u c t : ℕ) (l : List Entry) (e : Election) → IsHistory ring h → Contains h.elections e → e.term ≡ t
+    → u ≤ t → IsSealed ring h u c l → Agree c l (h.book t)
 sealed_in_book ring h u c t l e k in_e is le (Nothing_yet z) = record { left = omega arith; right = omega arith; same = rw z refl }
 sealed_in_book ring h u c t l e k in_e is le (Sealed_at s p a b m x) = agree_trans c l (h.book s) (h.book t) x (agree_less c p (h.book s) (h.book t) b (committed_in_book ring h k s p t e m in_e is (omega arith)))
 

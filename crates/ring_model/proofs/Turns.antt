@@ -39,7 +39,8 @@ pub record IsWorld (ring : Layout) (w : WorldState) (h : History) : Type 0 where
 -- messages that a node sends one after another
 pub data Sends (ring : Layout) (id : ℕ) (d : Durable) : History → List Message → History → Type 0 where
   Sent_all : {h : History} → Sends ring id d h [] h
-  Sends_on : {h g : History} {m : Message} {ms : List Message} → IsSent ring h m.from m.to m.body → MayAnswer h id d m → Sends ring id d (with_message h m) ms g → Sends ring id d h (m ∷ ms) g
+  Sends_on : {h g : History} {m : Message} {ms : List Message} → IsSent ring h m.from m.to m.body → MayAnswer h id d m
+      → Sends ring id d (with_message h m) ms g → Sends ring id d h (m ∷ ms) g
 
 -- which elections a step holds: none, where the node led before or does not lead after; else the one that its path holds, with the grants of its soft part
 pub data Holding (ring : Layout) (id : ℕ) (h g : History) (d : Durable) (s o : Soft) (steps : List Action) (path : Path ring id h d steps g) : Type 0 where
@@ -81,7 +82,8 @@ chosen_grows id h l le = record {
 }
 
 -- what a sealed beginning of a log gives as the chosen list
-chosen_history : (ring : Layout) (id : ℕ) (h : History) (l : List Entry) → length h.chosen ≤ length l → IsHistory ring h → (u : ℕ) × IsSealed ring h u (length l) l → IsHistory ring (with_chosen h l)
+chosen_history : (ring : Layout) (id : ℕ) (h : History) (l : List Entry) → length h.chosen ≤ length l → IsHistory ring h
+    → (u : ℕ) × IsSealed ring h u (length l) l → IsHistory ring (with_chosen h l)
 chosen_history ring id h l le k s =
     let g = chosen_grows id h l le in
     record {
@@ -104,7 +106,8 @@ seal_take ring h u c l le x = subst (λ (n : ℕ). IsSealed ring h u n (take c l
     go (Sealed_at s p a b m y) = Sealed_at s p a b m (agree_trans c (take c l) l (h.book s) (agree_sym c l (take c l) (agree_take c c l (omega arith) le)) y)
 
 -- chosen only grows: the old list is a beginning of the new one
-pub chosen_only_grows : (ring : Layout) (h : History) (u c : ℕ) (l : List Entry) → IsHistory ring h → c ≤ length l → IsSealed ring h u c l → length h.chosen ≤ c → Agree (length h.chosen) h.chosen (take c l)
+pub chosen_only_grows : (ring : Layout) (h : History) (u c : ℕ) (l : List Entry) → IsHistory ring h → c ≤ length l → IsSealed ring h u c l
+    → length h.chosen ≤ c → Agree (length h.chosen) h.chosen (take c l)
 chosen_only_grows ring h u c l k le x more =
     let t = k.chosen in
     sealed_agree ring h t.0 u (length h.chosen) c h.chosen (take c l) k t.1 (subst (λ (n : ℕ). IsSealed ring h u n (take c l)) (length-take-le c l le) (seal_take ring h u c l le x)) more
@@ -119,12 +122,14 @@ node_here nodes id n = let same : (id == id) ≡ true = grind (arith, nat_tests)
 pub node_other : (nodes : ℕ → Node) (id j : ℕ) (n : Node) → (j ≡ id → ⊥) → with_node nodes id n j ≡ nodes j
 node_other nodes id j n other = let same : (j == id) ≡ false = grind (arith, nat_tests, other) in rw same refl
 
-role_stays : (ring : Layout) (id j : ℕ) (h g : History) (d : Durable) (s : Soft) (r : Role) → Grows id h g → (j ≡ id → ⊥) → HasRole h j d s r → HasRole g j d s r
+role_stays : (ring : Layout) (id j : ℕ) (h g : History) (d : Durable) (s : Soft) (r : Role) → Grows id h g → (j ≡ id → ⊥) → HasRole h j d s r
+    → HasRole g j d s r
 role_stays ring id j h g d s Follower x other y = tt
 role_stays ring id j h g d s Candidate x other y = candidate_stays ring id h g x j d s.grants other y
 role_stays ring id j h g d s Leader x other y = leader_stays ring id h g x j d s y
 
-running_stays : (ring : Layout) (id j : ℕ) (h g : History) (d : Durable) (s : Soft) → Grows id h g → (j ≡ id → ⊥) → IsRunning ring h j d s → IsRunning ring g j d s
+running_stays : (ring : Layout) (id j : ℕ) (h g : History) (d : Durable) (s : Soft) → Grows id h g → (j ≡ id → ⊥) → IsRunning ring h j d s
+    → IsRunning ring g j d s
 running_stays ring id j h g d s x other y = record {
   sealed = grow_sealed ring id h g x d.term d.term s.commit d.log (omega arith) y.sealed;
   chosen = omega (arith, y.chosen, x.chosen);
@@ -139,7 +144,8 @@ grow_length l n le = go (nat_lt (length l) (reach n)) refl
     go true is = rw is (let lt : length l < reach n = grind (arith, nat_tests, is) in let k = length-take-le (reach n) n.durable.log le in (omega arith, omega arith))
     go false is = rw is (omega arith, grind (arith, nat_tests, is))
 
-grow_sealed_list : (ring : Layout) (h : History) (u : ℕ) (n : Node) → reach n ≤ length n.durable.log → IsSealed ring h u (reach n) n.durable.log → (t : ℕ) × IsSealed ring h t (length h.chosen) h.chosen
+grow_sealed_list : (ring : Layout) (h : History) (u : ℕ) (n : Node) → reach n ≤ length n.durable.log → IsSealed ring h u (reach n) n.durable.log
+    → (t : ℕ) × IsSealed ring h t (length h.chosen) h.chosen
     → (t : ℕ) × IsSealed ring h t (length (grown h.chosen n)) (grown h.chosen n)
 grow_sealed_list ring h u n le x old = go (nat_lt (length h.chosen) (reach n)) refl
   where
@@ -177,7 +183,8 @@ pub record TurnedTo (ring : Layout) (w v : WorldState) (h : History) (id : ℕ) 
   pub books : BooksGo h after (w.nodes id).durable acts
 
 -- where the chosen sequence grew the node led its term
-grown_led : (h : History) (id : ℕ) (n : Node) (c : List Entry) → h.chosen ≡ c → MayReach h id n.durable.term (reach n) → length c < length (grown c n) → IsLed h id n.durable.term
+grown_led : (h : History) (id : ℕ) (n : Node) (c : List Entry) → h.chosen ≡ c → MayReach h id n.durable.term (reach n) → length c < length (grown c n)
+    → IsLed h id n.durable.term
 grown_led h id n c is (inr led) more = led
 grown_led h id n c is (inl low) more = go (nat_lt (length c) (reach n)) refl more
   where
@@ -185,14 +192,17 @@ grown_led h id n c is (inl low) more = go (nat_lt (length c) (reach n)) refl mor
     go true x y = absurd (let lt : length c < reach n = grind (arith, nat_tests, x) in omega (arith, low, ap length is))
     go false x y = absurd (let z = rw x at y in omega arith)
 
-grow_agrees : (ring : Layout) (h : History) (u : ℕ) (n : Node) → IsHistory ring h → reach n ≤ length n.durable.log → IsSealed ring h u (reach n) n.durable.log → Agree (length h.chosen) h.chosen (grown h.chosen n)
+grow_agrees : (ring : Layout) (h : History) (u : ℕ) (n : Node) → IsHistory ring h → reach n ≤ length n.durable.log
+    → IsSealed ring h u (reach n) n.durable.log → Agree (length h.chosen) h.chosen (grown h.chosen n)
 grow_agrees ring h u n k le x = go (nat_lt (length h.chosen) (reach n)) refl
   where
     go : (b : Bool) → nat_lt (length h.chosen) (reach n) ≡ b → Agree (length h.chosen) h.chosen (grown h.chosen n)
     go true is = rw is (chosen_only_grows ring h u (reach n) n.durable.log k le x (let lt : length h.chosen < reach n = grind (arith, nat_tests, is) in omega arith))
     go false is = rw is (agree_same (length h.chosen) h.chosen (omega arith))
 
-pub turn_keeps : (ring : Layout) (w : WorldState) (h : History) (id : ℕ) (n : Node) (ms : List Message) (says : List Say) (cuts : List ℕ) (held : List Election) (acts : List Action) → IsWorld ring w h → IsTurn ring w h id n ms held acts → TurnedTo ring w (turned w id n ms says cuts) h id held acts
+pub turn_keeps : (ring : Layout) (w : WorldState) (h : History) (id : ℕ) (n : Node) (ms : List Message) (says : List Say) (cuts : List ℕ)
+    (held : List Election) (acts : List Action) → IsWorld ring w h → IsTurn ring w h id n ms held acts
+    → TurnedTo ring w (turned w id n ms says cuts) h id held acts
 turn_keeps ring w h id n ms says cuts held acts k t =
     let x = t.after in
     let l = grown x.chosen n in
@@ -238,7 +248,8 @@ turn_keeps ring w h id n ms says cuts held acts k t =
       chosen = subst (λ (c : List Entry). Agree (length c) c (grown c n)) is (grow_agrees ring x n.durable.term n t.history t.inside t.reached);
     }
   where
-    runs : (s : Soft) → n.soft ≡ Some s → (l : List Entry) → (length t.after.chosen ≤ length l) × (reach n ≤ length l) → Grows (suc id) t.after (with_chosen t.after l) → IsRunning ring (with_chosen t.after l) id n.durable s
+    runs : (s : Soft) → n.soft ≡ Some s → (l : List Entry) → (length t.after.chosen ≤ length l) × (reach n ≤ length l)
+        → Grows (suc id) t.after (with_chosen t.after l) → IsRunning ring (with_chosen t.after l) id n.durable s
     runs s so l long co =
         let is : reach n ≡ s.commit = reach_up n s so in
         record {

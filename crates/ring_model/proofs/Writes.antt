@@ -29,8 +29,10 @@ use Rattle.ring_model.proofs.Plain.{same_role, stays_holding}
 use Rattle.ring_model.proofs.Elect.{seal_longer}
 
 -- a leader adds an entry, after the engine's work alone
-add_row : (ring : Layout) (h : History) (id : ℕ) (d : Durable) (s t : Soft) (first : List Action) (x : Entry) (says : List Say) → IsHistory ring h → IsNode ring h id d → IsRunning ring h id d s → s.role ≡ Leader
-    → t.role ≡ s.role → t.commit ≡ s.commit → t.peers ≡ s.peers → QuietPath ring id h d first → x.opid.term ≡ d.term → x.opid.position ≡ suc (length d.log) → x.region ≡ region_of ring id
+add_row : (ring : Layout) (h : History) (id : ℕ) (d : Durable) (s t : Soft) (first : List Action) (x : Entry) (says : List Say) → IsHistory ring h
+    → IsNode ring h id d → IsRunning ring h id d s → s.role ≡ Leader
+    → t.role ≡ s.role → t.commit ≡ s.commit → t.peers ≡ s.peers → QuietPath ring id h d first → x.opid.term ≡ d.term → x.opid.position ≡ suc (length d.log)
+    → x.region ≡ region_of ring id
     → IsRow ring h id d s (advance ring id d t (first ++ (action.Append (x ∷ []) ∷ [])) says)
 add_row ring h id d s t first x says k n r role same_role same_count same_peers q x_term x_place x_region =
     let e : Durable = all_done d first in
@@ -59,7 +61,8 @@ add_row ring h id d s t first x says k n r role same_role same_count same_peers 
     (subst (λ (w : Durable). w.applied ≤ t.commit) (sym j) (omega (arith, same.applied, same_count, r.applied)))
     (Led_on (ap is_leader role) (quiet_join ring id h h m d first (action.Append (x ∷ []) ∷ []) q.path (Goes_on (Adds l.election x refl may refl) Ends) q.quiet refl))
 
-pub refused_row : (ring : Layout) (h : History) (id client : ℕ) (c : Cause) (d : Durable) (s : Soft) → IsRunning ring h id d s → IsRow ring h id d s (refused s client c)
+pub refused_row : (ring : Layout) (h : History) (id client : ℕ) (c : Cause) (d : Durable) (s : Soft) → IsRunning ring h id d s
+    → IsRow ring h id d s (refused s client c)
 refused_row ring h id client c d s r = record { acted = h; path = Ends; sent = h; sends = Sent_all; role = r.role; sealed = r.sealed; applied = r.applied; reaches = inl r.chosen; holding = stays_holding ring id h d s s refl }
 
 -- only a leader is not refused
@@ -81,7 +84,8 @@ rotate_leads ring id d s is = go s.role refl
     go Candidate x = absurd (let u = rw x at is in cc)
     go Leader x = x
 
-pub write_row : (ring : Layout) (h : History) (id client : ℕ) (changes : List Change) (d : Durable) (s : Soft) → IsHistory ring h → IsNode ring h id d → IsRunning ring h id d s → IsRow ring h id d s (write ring id d s client changes)
+pub write_row : (ring : Layout) (h : History) (id client : ℕ) (changes : List Change) (d : Durable) (s : Soft) → IsHistory ring h → IsNode ring h id d
+    → IsRunning ring h id d s → IsRow ring h id d s (write ring id d s client changes)
 unfolding write
 write_row ring h id client changes d s k n r = go (write_refusal ring id d s changes) refl
   where
@@ -92,10 +96,12 @@ write_row ring h id client changes d s k n r = go (write_refusal ring id d s cha
         (action.Prepare (record { opid = (write_entry ring id d changes).opid; txn = write_txn ring id d changes }) ∷ []) (write_entry ring id d changes) [] k n r (write_leads ring id d s changes is) refl refl refl
         (engine_action ring id h d (action.Prepare (record { opid = (write_entry ring id d changes).opid; txn = write_txn ring id d changes })) (record { term = refl; votes = refl; log = refl; applied = refl })) refl refl refl
 
-pub rotate_row : (ring : Layout) (h : History) (id client : ℕ) (d : Durable) (s : Soft) → IsHistory ring h → IsNode ring h id d → IsRunning ring h id d s → IsRow ring h id d s (rotate ring id d s client)
+pub rotate_row : (ring : Layout) (h : History) (id client : ℕ) (d : Durable) (s : Soft) → IsHistory ring h → IsNode ring h id d → IsRunning ring h id d s
+    → IsRow ring h id d s (rotate ring id d s client)
 unfolding rotate
 rotate_row ring h id client d s k n r = go (rotate_refusal ring id d s) refl
   where
-    go : (c : Option Cause) → rotate_refusal ring id d s ≡ c → IsRow ring h id d s (elim c [ Some c ↦ refused s client c | None ↦ rotate_step ring id d s client (own_entry ring id d payload.Rotate) ])
+    go : (c : Option Cause) → rotate_refusal ring id d s ≡ c
+        → IsRow ring h id d s (elim c [ Some c ↦ refused s client c | None ↦ rotate_step ring id d s client (own_entry ring id d payload.Rotate) ])
     go (Some c) is = refused_row ring h id client c d s r
     go None is = add_row ring h id d s s [] (own_entry ring id d payload.Rotate) (record { client = client; what = what.Rotated (own_entry ring id d payload.Rotate).opid } ∷ []) k n r (rotate_leads ring id d s is) refl refl refl (no_actions ring id h d) refl refl refl
