@@ -1,0 +1,5 @@
+pub mod Checksums
+pub mod Events
+pub mod Forms
+pub mod Fields
+pub mod Reading
