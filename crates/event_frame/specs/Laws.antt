@@ -16,6 +16,7 @@ WrittenIsRead =
 pub record IsAtFront (bytes : List ℕ) (at : ℕ) (e : Event) : Type 0 where
   pub parts : bytes ≡ event e.kind e.flags (take e.body_len (drop e.body_at bytes)) at ++ drop e.size bytes
   pub body_at : e.body_at ≡ 19
+  pub body_size : length (take e.body_len (drop e.body_at bytes)) ≡ e.body_len
   pub size : e.size ≡ e.body_len + 23
   pub whole : e.size ≤ length bytes
 
