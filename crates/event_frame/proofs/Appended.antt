@@ -1,5 +1,5 @@
 -- A header, a body and the checksum of both, put one behind the other, are the event, since appending is associative.
-use Rattle.std.proofs.Common.{◌≡◌, ℕ, List, ◌++◌, length, drop, ap, sym, ◌∙◌, append_assoc}
+use Rattle.std.proofs.Common.{◌≡◌, ℕ, List, ◌++◌, length, drop, ap, sym, ap₂, ◌∙◌, append_assoc}
 use Rattle.std.proofs.lemmas.List.{drop_at}
 use Rattle.std.specs.Int.{w32, to_le_bytes}
 use Rattle.event_frame.specs.Checksums.{crc32}
@@ -19,3 +19,11 @@ event_is_summed kind flags at body old mid new begin b m n = summed old (unsumme
 pub event_is_put : (kind flags at : ℕ) (body old headed mid new : List ℕ) (begin : ℕ) → begin ≡ length old → headed ≡ old ++ header_at kind flags (length body) at → mid ≡ headed ++ body → new ≡ mid ++ to_le_bytes w32 (crc32 (drop begin mid)) → new ≡ old ++ event kind flags body at
 event_is_put kind flags at body old headed mid new begin b h m n =
     event_is_summed kind flags at body old mid new begin b (m ∙ ap (λ (x : List ℕ). x ++ body) h ∙ append_assoc old (header_at kind flags (length body) at) body) n
+
+-- one more part of a body was put
+pub part_is_put : (old text mid more made new : List ℕ) → mid ≡ old ++ text → made ≡ more → new ≡ mid ++ made → new ≡ old ++ (text ++ more)
+part_is_put old text mid more made new m e n = n ∙ ap₂ (λ (x y : List ℕ). x ++ y) m e ∙ append_assoc old text more
+
+-- the first part of a body was put
+pub first_is_put : (old text made new : List ℕ) → made ≡ text → new ≡ old ++ made → new ≡ old ++ text
+first_is_put old text made new e n = n ∙ ap (λ (x : List ℕ). old ++ x) e

@@ -11,3 +11,4 @@ pub mod Texts
 pub mod Written
 pub mod ReadEvents
 pub mod Appended
+pub mod Wrapping
