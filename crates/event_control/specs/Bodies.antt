@@ -26,7 +26,7 @@ padded size text = text ++ replicate (size - length text) 0
 unfoldable pub server_name : List ℕ
 server_name = padded 50 (codes "8.0.0-myraft")
 
--- QUERY 13; ROTATE and TABLE_MAP 8; the three kinds of rows 10; GTID 42; no other type has such bytes or is written
+-- QUERY 13; ROTATE and TABLE_MAP 8; the three kinds of rows 10; GTID 42. Of every other type the profile says 0
 abbrev pub fixed_size : ℕ → ℕ
 fixed_size kind =
     if kind == 2 then 13
