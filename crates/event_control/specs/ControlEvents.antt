@@ -7,30 +7,13 @@ use Rattle.event_frame.specs.Events.{event, event_at}
 use Rattle.event_frame.specs.declared.frames.Event.{Event}
 use Rattle.event_frame.specs.declared.frames.FrameError.{FrameError}
 use Rattle.ring_types.specs.declared.entries.Opid.{Opid}
+use Rattle.event_control.specs.declared.due_events.TheConstants.{ROTATE, FORMAT_DESCRIPTION, IGNORABLE, PREVIOUS_GTIDS, MAY_IGNORE}
 use Rattle.event_control.specs.declared.faults.ControlError.{ControlError}
 use Rattle.event_control.specs.declared.faults.ControlError.TheVariants.{Frame, Kind, Body}
 use Rattle.event_control.specs.declared.heads.Head.{Head}
 use Rattle.event_control.specs.declared.rotations.Rotation.{Rotation}
 use Rattle.event_control.specs.declared.opid_events.OpidEvent.{OpidEvent}
 use Rattle.event_control.specs.Bodies.{format_form, format_body, rotate_form, rotate_body, opid_form, opid_body}
-
--- ---- types and flags
-
-abbrev pub rotate : ℕ
-rotate = 4
-
-abbrev pub format_description : ℕ
-format_description = 15
-
-abbrev pub ignorable : ℕ
-ignorable = 28
-
-abbrev pub previous_gtids : ℕ
-previous_gtids = 35
-
--- the flag of an event that a reader who does not know its type may pass over
-abbrev pub may_ignore : ℕ
-may_ignore = 128
 
 -- ---- what is written
 
@@ -40,13 +23,13 @@ magic = 254 ∷ codes "bin"
 
 -- the magic ends at 4, and FORMAT_DESCRIPTION at 126
 abbrev pub head : List ℕ → List ℕ
-head previous = magic ++ event format_description 0 format_body 4 ++ event previous_gtids may_ignore previous 126
+head previous = magic ++ event FORMAT_DESCRIPTION 0 format_body 4 ++ event PREVIOUS_GTIDS MAY_IGNORE previous 126
 
 abbrev pub rotate_event : ℕ → ℕ → List ℕ
-rotate_event next_file at = event rotate 0 (rotate_body next_file) at
+rotate_event next_file at = event ROTATE 0 (rotate_body next_file) at
 
 abbrev pub opid_event : ℕ → Opid → ℕ → ℕ → List ℕ
-opid_event kind opid region at = event ignorable may_ignore (opid_body kind opid region) at
+opid_event kind opid region at = event IGNORABLE MAY_IGNORE (opid_body kind opid region) at
 
 -- ---- what is read
 
@@ -73,13 +56,13 @@ said_at kind flags form bytes at =
 abbrev pub head_at : List ℕ → Result Head ControlError
 head_at bytes =
     and_then (found Body Body ((constant magic).at bytes)) (λ m.
-    and_then (said_at format_description 0 format_form m.1 4) (λ f.
-    and_then (due_at previous_gtids may_ignore (drop f.1 m.1) (4 + f.1)) (λ e.
+    and_then (said_at FORMAT_DESCRIPTION 0 format_form m.1 4) (λ f.
+    and_then (due_at PREVIOUS_GTIDS MAY_IGNORE (drop f.1 m.1) (4 + f.1)) (λ e.
     Ok (record { previous_at = 4 + f.1 + e.body_at; previous_len = e.body_len; size = 4 + f.1 + e.size }))))
 
 abbrev pub rotation_at : List ℕ → ℕ → Result Rotation ControlError
-rotation_at bytes at = and_then (said_at rotate 0 rotate_form bytes at) (λ r. Ok (record { next_file = r.0; size = r.1 }))
+rotation_at bytes at = and_then (said_at ROTATE 0 rotate_form bytes at) (λ r. Ok (record { next_file = r.0; size = r.1 }))
 
 abbrev pub opid_event_at : List ℕ → ℕ → Result OpidEvent ControlError
 opid_event_at bytes at =
-    and_then (said_at ignorable may_ignore opid_form bytes at) (λ o. Ok (record { kind = o.0.0; opid = o.0.1; region = o.0.2; size = o.1 }))
+    and_then (said_at IGNORABLE MAY_IGNORE opid_form bytes at) (λ o. Ok (record { kind = o.0.0; opid = o.0.1; region = o.0.2; size = o.1 }))

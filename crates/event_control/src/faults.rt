@@ -1,8 +1,7 @@
-ghost use Rattle.std.specs.Prelude.{◌≡◌, ◌+◌, ◌≤◌, length, take, drop, IfOk};
+ghost use Rattle.std.specs.Prelude.{◌≡◌};
 ghost use Rattle.event_control.specs.declared.faults.ControlError.TheVariants.{Frame, Body};
-ghost use Rattle.event_control.specs.ControlEvents.{due_at, body_in};
 
-use event_frame::{Event, FieldFault, FrameError, read_event};
+use event_frame::{FieldFault, FrameError};
 
 /// Why the event that is due does not stand there, in the order in which it is tested.
 #[derive(Clone, Copy, Debug, PartialEq, Eq, thiserror::Error)]
@@ -32,28 +31,4 @@ impl From<FieldFault> for ControlError {
     fn from(_fault: FieldFault) -> ControlError {
         ControlError::Body
     }
-}
-
-/// The event at the front of the bytes, if it has this type and these flags.
-pub(crate) fn due_at(bytes: &[u8], kind: u8, flags: u16, at: u64) -> Result<Event, ControlError>
-    ensures given { result ≡ due_at kind flags bytes.now at }
-    ensures end { IfOk result (λ e. e.size ≤ length bytes.now) }
-    ensures place { IfOk result (λ e. e.body_at ≡ 19) }
-    ensures body { IfOk result (λ e. 23 + e.body_len ≡ e.size) }
-{
-    let event = read_event(bytes, at)?;
-    if event.kind != kind || event.flags != flags {
-        return Err(ControlError::Kind);
-    }
-    Ok(event)
-}
-
-/// The body of an event that was read at the front of the bytes.
-pub(crate) fn body_in<'a>(event: &Event, bytes: &'a [u8]) -> &'a [u8]
-    requires { event.now.body_at + event.now.body_len ≤ length bytes.now }
-    ensures { result.now ≡ body_in event.now bytes.now }
-{
-    let begin = event.body_at as usize;
-    let end = begin + event.body_len as usize;
-    &bytes[begin..end]
 }

@@ -3,10 +3,12 @@ ghost use Rattle.event_frame.specs.Forms.{body_of, front_of};
 ghost use Rattle.event_frame.specs.Events.{event};
 ghost use Rattle.event_frame.specs.Reading.{Gives};
 ghost use Rattle.event_control.specs.Bodies.{server_name, fixed_sizes, format_form, format_body};
-ghost use Rattle.event_control.specs.ControlEvents.{head, head_at, format_description};
+ghost use Rattle.event_control.specs.ControlEvents.{head, head_at};
+ghost use Rattle.event_control.specs.declared.due_events.TheConstants.{FORMAT_DESCRIPTION};
 ghost use Rattle.event_control.specs.declared.faults.ControlError.TheVariants.{Body};
 
-use crate::faults::{ControlError, body_in, due_at};
+use crate::due_events::{FORMAT_DESCRIPTION, MAY_IGNORE, PREVIOUS_GTIDS, body_in, due_at};
+use crate::faults::ControlError;
 use event_frame::{constant_at, ended, put_header, put_sum, write_event};
 use ring_types::Memory;
 
@@ -49,10 +51,15 @@ pub fn read_head(bytes: &[u8]) -> Result<Head, ControlError>
     ensures { result ≡ head_at bytes.now }
 {
     let rest = constant_at(bytes, &MAGIC)?;
-    let format = due_at(rest, 15, 0, 4)?;
+    let format = due_at(rest, FORMAT_DESCRIPTION, 0, 4)?;
     check_format(body_in(&format, rest))?;
     let begin = 4 + format.size;
-    let previous = due_at(&rest[format.size as usize..], 35, 0x80, begin)?;
+    let previous = due_at(
+        &rest[format.size as usize..],
+        PREVIOUS_GTIDS,
+        MAY_IGNORE,
+        begin,
+    )?;
     Ok(Head {
         previous_at: begin + previous.body_at,
         previous_len: previous.body_len,
@@ -106,16 +113,16 @@ fn put_head(out: &mut Vec<u8>, previous: &[u8]) -> Result<(), Memory>
 {
     out.extend_from_slice(&MAGIC)?;
     put_format(out)?;
-    write_event(out, 35, 0x80, previous, 126)
+    write_event(out, PREVIOUS_GTIDS, MAY_IGNORE, previous, 126)
 }
 
 /// Puts FORMAT_DESCRIPTION. Without memory a part of it may be put.
 fn put_format(out: &mut Vec<u8>) -> Result<(), Memory>
-    ensures ok { OnOk result (out.new.items ≡ out.old.items ++ event format_description 0 format_body 4) }
+    ensures ok { OnOk result (out.new.items ≡ out.old.items ++ event FORMAT_DESCRIPTION 0 format_body 4) }
     ensures err { OnErr result (take (length out.old.items) out.new.items ≡ out.old.items) }
 {
     let begin = out.len();
-    put_header(out, 15, 0, 99, 4)?;
+    put_header(out, FORMAT_DESCRIPTION, 0, 99, 4)?;
     put_format_body(out)?;
     put_sum(out, begin)
 }

@@ -11,6 +11,7 @@
 //! tests the frame, then the type and the flags, then the body, and names the first that is at fault.
 #![tactic(auto)]
 
+mod due_events;
 mod faults;
 mod heads;
 mod laws;

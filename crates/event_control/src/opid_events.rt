@@ -5,7 +5,8 @@ ghost use Rattle.event_control.specs.Bodies.{opid_form, opid_body};
 ghost use Rattle.event_control.specs.ControlEvents.{opid_event, opid_event_at};
 ghost use Rattle.event_control.specs.declared.faults.ControlError.TheVariants.{Body};
 
-use crate::faults::{ControlError, body_in, due_at};
+use crate::due_events::{IGNORABLE, MAY_IGNORE, body_in, due_at};
+use crate::faults::ControlError;
 use event_frame::{ended, put_header, put_sum, u8_at, u16_at, u64_at};
 use ring_types::{Memory, Opid, RegionId};
 
@@ -23,7 +24,7 @@ pub struct OpidEvent {
 pub fn read_opid(bytes: &[u8], at: u64) -> Result<OpidEvent, ControlError>
     ensures { result ≡ opid_event_at bytes.now at }
 {
-    let event = due_at(bytes, 28, 0x80, at)?;
+    let event = due_at(bytes, IGNORABLE, MAY_IGNORE, at)?;
     let (kind, opid, region) = opid_in(body_in(&event, bytes))?;
     Ok(OpidEvent {
         kind,
@@ -83,7 +84,7 @@ fn put_event(
     ensures err { OnErr result (take (length out.old.items) out.new.items ≡ out.old.items) }
 {
     let begin = out.len();
-    put_header(out, 28, 0x80, 19, at)?;
+    put_header(out, IGNORABLE, MAY_IGNORE, 19, at)?;
     put_body(out, kind, opid, region)?;
     put_sum(out, begin)
 }

@@ -8,7 +8,8 @@ ghost use Rattle.event_control.specs.Bodies.{rotate_form, rotate_body, file_numb
 ghost use Rattle.event_control.specs.ControlEvents.{rotate_event, rotation_at};
 ghost use Rattle.event_control.specs.declared.faults.ControlError.TheVariants.{Body};
 
-use crate::faults::{ControlError, body_in, due_at};
+use crate::due_events::{ROTATE, body_in, due_at};
+use crate::faults::ControlError;
 use event_frame::{FieldFault, constant_at, ended, put_header, put_sum};
 use ring_types::Memory;
 
@@ -23,7 +24,7 @@ pub struct Rotation {
 pub fn read_rotate(bytes: &[u8], at: u64) -> Result<Rotation, ControlError>
     ensures { result ≡ rotation_at bytes.now at }
 {
-    let event = due_at(bytes, 4, 0, at)?;
+    let event = due_at(bytes, ROTATE, 0, at)?;
     let next_file = next_in(body_in(&event, bytes))?;
     Ok(Rotation {
         next_file,
@@ -93,7 +94,7 @@ fn put_event(out: &mut Vec<u8>, next_file: u32, at: u64) -> Result<(), Memory>
     ensures err { OnErr result (take (length out.old.items) out.new.items ≡ out.old.items) }
 {
     let begin = out.len();
-    put_header(out, 4, 0, 21, at)?;
+    put_header(out, ROTATE, 0, 21, at)?;
     put_body(out, next_file)?;
     put_sum(out, begin)
 }
