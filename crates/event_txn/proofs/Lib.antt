@@ -1,0 +1,4 @@
+pub mod FieldFaults
+pub mod Values
+pub mod Offsets
+pub mod Changes
