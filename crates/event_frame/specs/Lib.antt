@@ -3,3 +3,4 @@ pub mod Events
 pub mod Forms
 pub mod Fields
 pub mod Reading
+pub mod Laws

@@ -17,12 +17,21 @@ pub struct Event {
 }
 
 /// Why no event stands there, in the order in which it is tested.
-#[derive(Clone, Copy, Debug, PartialEq, Eq)]
+#[derive(Clone, Copy, Debug, PartialEq, Eq, thiserror::Error)]
 pub enum FrameError {
+    /// Fewer bytes than a header has, or than the event's size says.
+    #[error("the event is cut")]
     Short,
+    /// A size that a header and a checksum do not fit in.
+    #[error("the event's size is below 23")]
     BadSize,
+    /// A timestamp that is not 0, or a server id that is not 1.
+    #[error("the header has a timestamp or another server")]
     BadHeader,
+    /// The position is not that of the offset behind the event.
+    #[error("the event stands at another position")]
     BadPos,
+    #[error("the checksum is another")]
     BadSum,
 }
 
@@ -38,6 +47,7 @@ fn word_in(bytes: &[u8], at: usize) -> u32
 pub fn read_event(bytes: &[u8], at: u64) -> Result<Event, FrameError>
     ensures exact { result ≡ event_at bytes.now at }
     ensures end { IfOk result (λ e. e.size ≤ length bytes.now) }
+    ensures place { IfOk result (λ e. e.body_at ≡ 19) }
     ensures body { IfOk result (λ e. 23 + e.body_len ≡ e.size) }
 {
     if bytes.len() < 19 {
