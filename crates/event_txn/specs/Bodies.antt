@@ -25,7 +25,7 @@ gtid_form sequence = do
   own ← One Field (constant (to_le_bytes w64 sequence))
   Whole (record { server = server; number = number })
 
-abbrev pub gtid_body : ℕ → Gtid → List ℕ
+unfoldable pub gtid_body : ℕ → Gtid → List ℕ
 gtid_body sequence g =
     0 ∷ [] ++ to_be_bytes w128 g.server ++ to_le_bytes w64 g.number ++ 2 ∷ [] ++ to_le_bytes w64 (sequence - 1) ++ to_le_bytes w64 sequence
 

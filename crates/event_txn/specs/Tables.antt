@@ -108,11 +108,13 @@ described schema table = do
   metadata ← metadata_form table.columns
   One Table (constant (nullable (length table.columns)))
 
-unfoldable pub description : Schema → TableOf → List ℕ
-description schema table =
-    1 ∷ 0 ∷ [] ++ name_text schema.database ++ name_text table.name
-    ++ packed_text (length table.columns) ++ types_text table.columns
+abbrev pub columns_text : TableOf → List ℕ
+columns_text table =
+    packed_text (length table.columns) ++ types_text table.columns
     ++ packed_text (all_metadata table) ++ metadata_text table.columns ++ nullable (length table.columns)
+
+unfoldable pub description : Schema → TableOf → List ℕ
+description schema table = 1 ∷ 0 ∷ [] ++ name_text schema.database ++ name_text table.name ++ columns_text table
 
 -- the value is the table's place in the schema
 abbrev pub map_form : Schema → Form BodyFault ℕ
@@ -121,5 +123,5 @@ map_form schema = do
   description ← described schema (table_at schema place)
   Whole place
 
-abbrev pub map_body : Schema → ℕ → List ℕ
+unfoldable pub map_body : Schema → ℕ → List ℕ
 map_body schema place = table_number place ++ description schema (table_at schema place)

@@ -54,6 +54,11 @@ abbrev pub events_from : ℕ → List Typed → List ℕ
 events_from at [] = []
 events_from at (e ∷ more) = event e.0 0 e.1 at ++ events_from (at + size_of e.1) more
 
+-- the offset behind them
+abbrev pub behind : ℕ → List Typed → ℕ
+behind at [] = at
+behind at (e ∷ more) = behind (at + size_of e.1) more
+
 -- the events of a transaction whose entry has this position
 unfoldable pub txn_events : Schema → Txn → ℕ → Place → List ℕ
 txn_events schema txn position place = events_from place.at (txn_bodies schema txn position place.sequence)

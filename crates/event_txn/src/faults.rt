@@ -44,7 +44,7 @@ pub enum TxnError {
     #[error("the event at {at} has a bad value")]
     Value { at: u64 },
     /// No event stands there.
-    #[error("no event at {at}: {fault:?}")]
+    #[error("no event at {at}: {fault}")]
     Frame { at: u64, fault: FrameError },
     #[error("out of memory")]
     Memory,

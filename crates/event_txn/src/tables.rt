@@ -3,7 +3,8 @@ ghost use Rattle.std.specs.Prelude.{◌≡◌, ◌≤◌, ◌<◌, ◌-◌, ◌�
 ghost use Rattle.event_frame.specs.Forms.{One, body_of, front_of, found};
 ghost use Rattle.event_frame.specs.Fields.{constant};
 ghost use Rattle.event_frame.specs.Reading.{Gives};
-ghost use Rattle.ring_types.specs.Rings.{is_schema};
+ghost use Rattle.std.specs.List.{list_all};
+ghost use Rattle.ring_types.specs.Rings.{is_schema, column_fits};
 ghost use Rattle.ring_types.specs.Sizes.{all_metadata};
 ghost use Rattle.event_txn.specs.Tables.{map_form, table_at, described, name_form, types_form, type_of, metadata_form, metadata_of, nullable, all_ones};
 ghost use Rattle.event_txn.specs.declared.faults.BodyFault.TheVariants as fault;
@@ -31,7 +32,8 @@ pub fn table_in(schema: &Schema, place: usize) -> &Table
     requires schema { is_schema schema.now ≡ true }
     requires within { place < length schema.now.tables }
     ensures value { result.now ≡ table_at schema.now place }
-    ensures name { length result.now.name < 256 }
+    ensures name { length result.now.name ≤ 64 }
+    ensures fits { list_all column_fits result.now.columns ≡ true }
     ensures columns { length result.now.columns ≤ 64 }
     ensures some { 1 ≤ length result.now.columns }
 {
@@ -143,7 +145,8 @@ fn nullable_at(bytes: &[u8], columns: usize) -> Result<&[u8], BodyFault>
 pub fn ones(columns: usize) -> u64
     requires some { 1 ≤ columns }
     requires few { columns ≤ 64 }
-    ensures { result ≡ all_ones columns }
+    ensures value { result ≡ all_ones columns }
+    ensures some { 1 ≤ result }
 {
     u64::MAX >> (64 - columns)
 }
