@@ -1,0 +1,10 @@
+pub mod FieldFaults
+pub mod Values
+pub mod Offsets
+pub mod Changes
+pub mod Kept
+pub mod KeyImages
+pub mod Lengths
+pub mod Puts
+pub mod Places
+pub mod Events

@@ -1,0 +1,10 @@
+use Rattle.std.proofs.Common.{◌≡◌, ◌++◌, drop}
+use Rattle.event_txn.specs.Tables.{metadata_text}
+use Rattle.event_txn.specs.Writing.{Keeps}
+use Rattle.event_txn.proofs.putting.put_metadata.Given as goal
+
+abbrev pub invariant-loop-column : goal.invariant-loop-column
+invariant-loop-column l = record {
+  text : l.out.items ++ metadata_text (drop l.column-index l.columns) ≡ l.initial.out.items ++ metadata_text l.columns;
+  kept : Keeps l.initial.out.items l.out.items;
+}
