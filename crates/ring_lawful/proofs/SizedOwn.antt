@@ -53,7 +53,9 @@ ack_keeps ring me from answer d s sized short fits = go (nat_lt d.term answer.te
     go : (a : Bool) → nat_lt d.term answer.term ≡ a → (b : Bool) → counts d s answer ≡ b
         → Keeps ring d (if a then stepped (action.SetTerm answer.term ∷ []) [] (unknowns s) (demoted s) else (if b then leader_hears ring me d s from answer else idle s))
     go true x b y = raise_keeps ring answer.term d s [] (unknowns s) (grind (arith, nat_tests, x)) fits tt
-    go false x true y = advance_keeps ring me d (record s { peers = heard_among s.peers from answer.ok answer.position }) [] [] sized tt (leads_is s (both_true (is_leader s.role) (answer.term == d.term) (both_true (is_leader s.role && answer.term == d.term) (nat_le answer.position (length d.log)) y).0).0)
+    go false x true y =
+        advance_keeps ring me d (record s { peers = heard_among s.peers from answer.ok answer.position }) [] [] sized tt
+        (leads_is s (both_true (is_leader s.role) (answer.term == d.term) (both_true (is_leader s.role && answer.term == d.term) (nat_le answer.position (length d.log)) y).0).0)
     go false x false y = idle_keeps ring d s short
 
 over_fit : (ring : Layout) (me from : ℕ) (d : Durable) (peers : List Peer) (t : Transfer) → AllFit ring (after_ok me d peers from t)
@@ -75,7 +77,11 @@ answered_keeps ring me from answer d s x short fits = go (counts d s answer && a
     b = ack_keeps ring me from answer d s x short fits
 
     go : (a : Bool) → Keeps ring d (if a then with_more (on_ack ring me d s from answer) (after_ok me d (on_ack ring me d s from answer).soft.peers from s.transfer) else on_ack ring me d s from answer)
-    go true = record { allowed = b.allowed; short = b.short; sent = fit_join ring (on_ack ring me d s from answer).plan.messages (after_ok me d (on_ack ring me d s from answer).soft.peers from s.transfer) b.sent (over_fit ring me from d (on_ack ring me d s from answer).soft.peers s.transfer) }
+    go true = record {
+      allowed = b.allowed;
+      short = b.short;
+      sent = fit_join ring (on_ack ring me d s from answer).plan.messages (after_ok me d (on_ack ring me d s from answer).soft.peers from s.transfer) b.sent (over_fit ring me from d (on_ack ring me d s from answer).soft.peers s.transfer);
+    }
     go false = b
 
 -- ---- own entries
@@ -108,7 +114,8 @@ sizes_fit ring me d changes is = go (nat_lt group_limit (group_size ring.schema 
         → (group_bytes ring.schema (payload.Txn (write_txn ring me d changes)) ≤ group_limit) × (suc (length d.log) < TERM_END) × (is_number (write_txn ring me d changes).gtid.number ≡ true)
     go true x b y is = absurd cc
     go false x true y is = absurd cc
-    go false x false y is = (small_is (group_bytes ring.schema (payload.Txn (write_txn ring me d changes))) x, short_is (length d.log) (second_false _ (nat_le length_limit (length d.log)) y), number_fits (greatest_number (server_of ring me) d.log) (first_false _ (nat_le length_limit (length d.log)) y))
+    go false x false y is =
+        (small_is (group_bytes ring.schema (payload.Txn (write_txn ring me d changes))) x, short_is (length d.log) (second_false _ (nat_le length_limit (length d.log)) y), number_fits (greatest_number (server_of ring me) d.log) (first_false _ (nat_le length_limit (length d.log)) y))
 
 lock_asked : (ring : Layout) (me : ℕ) (d : Durable) (changes : List Change) → lock_refusal ring me d changes ≡ None → size_refusal ring me d changes ≡ None
 lock_asked ring me d changes is = go (lock_of d.prepared changes) is
@@ -155,7 +162,12 @@ may_write ring me d s changes some is = go (is_leader s.role) refl (is_ready s) 
         let c = checked_fit ring.schema (committed_rows ring d) changes (change_checked ring me d changes is) in
         let a : nat_le 1 (length changes) ≡ true = grind (arith, nat_tests, some) in
         let n = y.2 in
-        record { leads = leads_is s x; small = y.0; short = y.1; fits = all_three (nat_le 1 (length changes)) (list_all (change_fits ring.schema) changes) (is_number (write_txn ring me d changes).gtid.number) a c n }
+        record {
+          leads = leads_is s x;
+          small = y.0;
+          short = y.1;
+          fits = all_three (nat_le 1 (length changes)) (list_all (change_fits ring.schema) changes) (is_number (write_txn ring me d changes).gtid.number) a c n;
+        }
 
 pub write_keeps : (ring : Layout) (me client : ℕ) (changes : List Change) (d : Durable) (s : Soft) → nat_lt 0 (length changes) ≡ true → Sized ring d
     → IsShort d s → Keeps ring d (write ring me d s client changes)
@@ -169,7 +181,8 @@ write_keeps ring me client changes d s some x short = go (write_refusal ring me 
         let m = may_write ring me d s changes some is in
         let e : Entry = write_entry ring me d changes in
         let n = x.files in
-        advance_keeps ring me d (awaits s client e (write_txn ring me d changes).gtid) (action.Prepare (record { opid = e.opid; txn = write_txn ring me d changes }) ∷ action.Append (e ∷ []) ∷ []) [] x
+        advance_keeps ring me d (awaits s client e (write_txn ring me d changes).gtid)
+        (action.Prepare (record { opid = e.opid; txn = write_txn ring me d changes }) ∷ action.Append (e ∷ []) ∷ []) [] x
         ((m.fits, m.small), ((own_fits ring me d (payload.Txn (write_txn ring me d changes)) m.small m.short m.fits, omega (arith, n)), tt)) m.leads
 
 record MayRotate (d : Durable) (s : Soft) : Type 0 where
@@ -207,4 +220,5 @@ rotate_keeps ring me client d s x short = go (rotate_refusal ring me d s) refl
     go None is =
         let m = may_rotate ring me d s is in
         let n = m.files in
-        advance_keeps ring me d s (action.Append (own_entry ring me d payload.Rotate ∷ []) ∷ []) _ x ((own_fits ring me d payload.Rotate (omega arith) m.short refl, omega (arith, n)), tt) m.leads
+        advance_keeps ring me d s (action.Append (own_entry ring me d payload.Rotate ∷ []) ∷ []) _ x
+        ((own_fits ring me d payload.Rotate (omega arith) m.short refl, omega (arith, n)), tt) m.leads

@@ -39,7 +39,8 @@ filter_of p (y ∷ ys) x c = go p y ys x (filter_of p ys x) (p y) refl c
   where
     go : {X : Type 0} (p : X → Bool) (y : X) (ys : List X) (x : X) → (Contains (filter p ys) x → Contains ys x) → (b : Bool) → p y ≡ b
         → Contains (filter p (y ∷ ys)) x → Contains (y ∷ ys) x
-    go p y ys x ih true is c = let c' = rw is at c in elim (cons_cases y (filter p ys) x c') [ inl here ↦ (zero, omega arith, here) | inr there ↦ in_cons y ys x (ih there) ]
+    go p y ys x ih true is c =
+        let c' = rw is at c in elim (cons_cases y (filter p ys) x c') [ inl here ↦ (zero, omega arith, here) | inr there ↦ in_cons y ys x (ih there) ]
     go p y ys x ih false is c = let c' = rw is at c in in_cons y ys x (ih c')
 
 pub filter_true : {X : Type 0} (p : X → Bool) (xs : List X) (x : X) → Contains (filter p xs) x → p x ≡ true
@@ -82,7 +83,8 @@ all_of p (y ∷ ys) x t c = go p y ys x t (cons_cases y ys x c) (all_of p ys x) 
 
 pub map_keeps : {X Y : Type 0} (f : X → Y) (xs : List X) (x : X) → Contains xs x → Contains (map f xs) (f x)
 map_keeps f [] x c = absurd (omega (arith, c.1))
-map_keeps f (y ∷ ys) x c = elim (cons_cases y ys x c) [ inl here ↦ (zero, omega arith, ap f here) | inr there ↦ in_cons (f y) (map f ys) (f x) (map_keeps f ys x there) ]
+map_keeps f (y ∷ ys) x c =
+    elim (cons_cases y ys x c) [ inl here ↦ (zero, omega arith, ap f here) | inr there ↦ in_cons (f y) (map f ys) (f x) (map_keeps f ys x there) ]
 
 pub map_of : {X Y : Type 0} (f : X → Y) (xs : List X) (z : Y) → Contains (map f xs) z → (x : X) × Contains xs x × (f x ≡ z)
 map_of f [] z c = absurd (omega (arith, c.1))

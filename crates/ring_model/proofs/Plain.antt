@@ -108,7 +108,17 @@ sends_all ring id d h (m ∷ ms) k n each =
 
 -- ---- rows
 pub idle_row : (ring : Layout) (h : History) (id : ℕ) (d : Durable) (s : Soft) → IsRunning ring h id d s → IsRow ring h id d s (idle s)
-idle_row ring h id d s r = record { acted = h; path = Ends; sent = h; sends = Sent_all; role = r.role; sealed = r.sealed; applied = r.applied; reaches = inl r.chosen; holding = stays_holding ring id h d s s refl }
+idle_row ring h id d s r = record {
+  acted = h;
+  path = Ends;
+  sent = h;
+  sends = Sent_all;
+  role = r.role;
+  sealed = r.sealed;
+  applied = r.applied;
+  reaches = inl r.chosen;
+  holding = stays_holding ring id h d s s refl;
+}
 
 -- a step without actions that keeps role and commit count
 pub plain_row : (ring : Layout) (h : History) (id : ℕ) (d : Durable) (s o : Soft) (ms : List Message) (says : List Say) → IsHistory ring h
