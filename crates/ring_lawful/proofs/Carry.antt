@@ -20,7 +20,8 @@ use Rattle.ring_model.specs.Nodes.{Node, empty_durable, fresh_soft, recover}
 use Rattle.ring_model.specs.Runs.{IsRun, IsRunFrom, Move, is_known, is_whole_input, world, world_from}
 use Rattle.ring_model.specs.WellFormed.{IsNearlyWellFormed}
 use Rattle.ring_model.specs.Worlds.{ComeUp, Completion, Cut, GoDown, Handle, Rest, Task, Whole, WorldState, at_node, first_world, given, given_to, handled, line_step, member_turn, message_at, moved, next_given, next_to, passed, restart_actions, skipped, turn, turned, with_node, world_step}
-use Rattle.ring_model.proofs.Lists.{both_true, none_contained}
+use Rattle.ring_types.proofs.Booleans.{both_true}
+use Rattle.ring_model.proofs.Lists.{none_contained}
 use Rattle.ring_model.proofs.Turns.{node_here, node_other}
 use Rattle.ring_lawful.specs.EachStep.{IsFitNode, IsFitPart, IsGood}
 use Rattle.ring_lawful.proofs.EachStep.{every_step_is_possible, every_step_keeps_lawful}

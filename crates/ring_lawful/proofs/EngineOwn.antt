@@ -22,7 +22,7 @@ use Rattle.ring_model.specs.Replication.{counts, heard_among, leader_hears, on_a
 use Rattle.ring_model.specs.Transfers.{after_ok, on_answer, with_more}
 use Rattle.ring_model.specs.Writes.{awaits, change_refusal, committed_rows, is_handing, lock_of, lock_refusal, refused, size_refusal, rotate, rotate_refusal, rotate_step, write, write_entry, write_entry_step, write_refusal, write_txn}
 use Rattle.ring_model.specs.Steps.{demoted, idle, own_entry, stepped, unknowns}
-use Rattle.ring_model.proofs.Lists.{both_true}
+use Rattle.ring_types.proofs.Booleans.{both_true}
 use Rattle.ring_lawful.proofs.Engine.{clean_has}
 use Rattle.ring_lawful.proofs.EngineSteps.{advance_step, push_clean, written}
 use Rattle.ring_lawful.proofs.EngineBoth.{Both, advance_tail, idle_both, quiet_both, raise_both}

@@ -19,7 +19,7 @@ use Rattle.ring_model.specs.Actions.{all_done, done, entries_between, pairs_in}
 use Rattle.ring_model.specs.Nodes.{is_leader, is_ready, kept_pairs}
 use Rattle.ring_model.specs.Steps.{advance, commit_count, engine_actions, follow_actions, greatest, may_commit, stepped, waiting}
 use Rattle.ring_model.proofs.OwnEntry.{length_push}
-use Rattle.ring_model.proofs.Lists.{both_true}
+use Rattle.ring_types.proofs.Booleans.{both_true}
 use Rattle.ring_model.proofs.HeldElections.{done_join}
 use Rattle.ring_lawful.proofs.Along.{Allowed, Along, allowed_join, along_join}
 use Rattle.ring_lawful.proofs.Pairs.{Placed, between_more, between_push, none_between, opid_beyond, pairs_join, placed_push}

@@ -26,7 +26,8 @@ use Rattle.ring_model.specs.Replication.{heard_among, heard_from, quieter}
 use Rattle.ring_model.specs.Elections.{first_peers, has_won, lead, lead_or_ask, leading}
 use Rattle.ring_model.specs.Steps.{advance, commit_count, demoted, follow_actions, is_settled, may_commit, own_entry, smaller_of, stepped, waiting}
 use Rattle.ring_model.proofs.OwnEntry.{length_push}
-use Rattle.ring_model.proofs.Lists.{both_true, filter_of, filter_true, none_contained}
+use Rattle.ring_types.proofs.Booleans.{both_true}
+use Rattle.ring_model.proofs.Lists.{filter_of, filter_true, none_contained}
 use Rattle.ring_model.proofs.HeldElections.{done_join}
 use Rattle.ring_lawful.proofs.EngineAppend.{follow_log}
 use Rattle.ring_lawful.proofs.EngineSteps.{greatest_bounds}

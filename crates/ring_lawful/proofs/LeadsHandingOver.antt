@@ -27,7 +27,7 @@ use Rattle.ring_model.specs.Elections.{elect}
 use Rattle.ring_model.specs.Steps.{idle, message, stepped}
 use Rattle.ring_model.specs.Transfers.{ask_transfer, begin_mock, begin_round, cancel, count_answer, is_off, is_old_round, mock_hears, on_mock_reply, on_mock_request, on_mock_result, on_mock_start, on_timeout, own_failed, own_passed, passes, result_heard, round_limit, transfer_hears, transfer_refusal, with_answer}
 use Rattle.ring_model.specs.Writes.{refused}
-use Rattle.ring_model.proofs.Lists.{both_true}
+use Rattle.ring_types.proofs.Booleans.{both_true}
 use Rattle.ring_lawful.proofs.Leads.{SoftFits, SoftStep}
 use Rattle.ring_lawful.proofs.LeadsElections.{elect_soft}
 

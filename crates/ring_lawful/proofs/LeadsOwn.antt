@@ -21,7 +21,7 @@ use Rattle.ring_model.specs.Steps.{demoted, idle, own_entry, stepped, unknowns}
 use Rattle.ring_model.specs.Transfers.{after_ok, on_answer, with_more}
 use Rattle.ring_model.specs.Writes.{awaits, refused, rotate, rotate_refusal, rotate_step, write, write_entry, write_entry_step, write_refusal, write_txn}
 use Rattle.ring_model.proofs.OwnEntry.{entry_more, get_end, length_push}
-use Rattle.ring_model.proofs.Lists.{both_true}
+use Rattle.ring_types.proofs.Booleans.{both_true}
 use Rattle.ring_lawful.proofs.EngineOwn.{rotate_is_ready, write_is_ready}
 use Rattle.ring_lawful.proofs.Leads.{LeaderFits, SoftFits, SoftStep, advance_soft, demoted_fits, heard_nodes, heard_silent, quieter_nodes, quieter_silent, rises_push}
 

@@ -28,7 +28,7 @@ use Rattle.ring_model.specs.Nodes.{ArePairsAbove, IsLawful, IsPendingIn, IsSound
 use Rattle.ring_model.specs.Replication.{opids_of}
 use Rattle.ring_model.specs.Steps.{idle}
 use Rattle.ring_model.specs.WellFormed.{BodyIsNear, opid_fits, opids_follow}
-use Rattle.ring_model.proofs.Lists.{both_true}
+use Rattle.ring_types.proofs.Booleans.{both_true}
 use Rattle.ring_lawful.specs.EachStep.{IsGood}
 use Rattle.ring_lawful.proofs.Keeps.{KeepsOrder}
 use Rattle.ring_lawful.proofs.Chains.{Chain, ordered_from}

@@ -17,7 +17,7 @@ use Rattle.ring_model.specs.declared.nodes.Durable.{Durable}
 use Rattle.ring_model.specs.declared.nodes.Soft.{Soft}
 use Rattle.ring_model.specs.Steps.{advance}
 use Rattle.ring_model.specs.WellFormed.{IsWellFormed, opid_fits}
-use Rattle.ring_model.proofs.Lists.{both_true}
+use Rattle.ring_types.proofs.Booleans.{both_true}
 use Rattle.ring_lawful.proofs.Chains.{Ordered}
 use Rattle.ring_lawful.proofs.Sized.{Sized}
 

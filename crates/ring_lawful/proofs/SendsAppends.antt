@@ -25,7 +25,7 @@ use Rattle.ring_model.specs.Nodes.{is_leader}
 use Rattle.ring_model.specs.Replication.{accept, batch_length, batch_limit, batch_of, beat, beat_to, follow_append, is_proxied, leads_it, match_append, on_append, opid_before, opids_of, outgrows, proxy_id, quieter, reply, send_direct, send_proxied, tear_in}
 use Rattle.ring_model.specs.Steps.{demoted, idle, stepped, unknowns}
 use Rattle.ring_model.specs.WellFormed.{EntriesFit, IsWellFormed, all_bytes, opid_fits, opids_follow}
-use Rattle.ring_model.proofs.Lists.{both_true}
+use Rattle.ring_types.proofs.Booleans.{both_true}
 use Rattle.ring_lawful.proofs.Chains.{Chain, end, end_take}
 use Rattle.ring_lawful.proofs.Pairs.{take_short}
 use Rattle.ring_lawful.proofs.Sized.{all_drop, all_take, all_weaker, entry_fits, fit_parts}

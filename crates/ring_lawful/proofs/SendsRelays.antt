@@ -10,7 +10,7 @@ use Rattle.ring_types.specs.Rings.{Layout}
 use Rattle.ring_model.specs.declared.messages.ProxyAppend.{ProxyAppend}
 use Rattle.ring_model.specs.Replication.{found, opids_of}
 use Rattle.ring_model.specs.WellFormed.{EntriesFit, OpidsFit, opid_fits, opids_follow}
-use Rattle.ring_model.proofs.Lists.{both_true}
+use Rattle.ring_types.proofs.Booleans.{both_true}
 use Rattle.ring_lawful.proofs.Sized.{entry_fits}
 use Rattle.ring_lawful.proofs.SendsAppends.{groups_of, payloads_of}
 

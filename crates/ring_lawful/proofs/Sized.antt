@@ -21,7 +21,8 @@ use Rattle.ring_model.specs.declared.messages.Message.{Message}
 use Rattle.ring_model.specs.declared.nodes.Durable.{Durable}
 use Rattle.ring_model.specs.Actions.{all_done, done, has_room, is_prepared, pair_of, vote_in, votes_above}
 use Rattle.ring_model.specs.Steps.{engine_actions, follow_actions, prepare_entry}
-use Rattle.ring_model.proofs.Lists.{all_of, both_true}
+use Rattle.ring_types.proofs.Booleans.{both_true}
+use Rattle.ring_model.proofs.Lists.{all_of}
 use Rattle.ring_lawful.proofs.Along.{Allowed, allowed_join}
 use Rattle.ring_lawful.proofs.Pairs.{at_contains}
 use Rattle.ring_types.specs.declared.entries.Payload.{Payload}

@@ -23,7 +23,8 @@ use Rattle.ring_model.specs.Actions.{all_done}
 use Rattle.ring_model.specs.Nodes.{is_leader}
 use Rattle.ring_model.specs.Replication.{accept, batch_of, beat, beat_to, file_limit, follow_append, found, is_proxied, kept_position, leads_it, match_append, on_append, opid_before, outgrows, proxy_id, quieter, relay, reply, send_direct, send_proxied, take_in, tear_in, unmatched}
 use Rattle.ring_model.specs.Steps.{demoted, idle, stepped, unknowns}
-use Rattle.ring_model.proofs.Lists.{all_of, both_true}
+use Rattle.ring_types.proofs.Booleans.{both_true}
+use Rattle.ring_model.proofs.Lists.{all_of}
 use Rattle.ring_lawful.proofs.Along.{Allowed, allowed_join}
 use Rattle.ring_lawful.proofs.Pairs.{at_contains}
 use Rattle.ring_lawful.proofs.Sized.{AllFit, BodyFits, May, Sized, all_drop, all_take, entry_fits, follow_may, rotates_is, sized_after, turns, turns_take}

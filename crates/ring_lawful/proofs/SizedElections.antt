@@ -25,7 +25,7 @@ use Rattle.ring_model.specs.Nodes.{is_leader}
 use Rattle.ring_model.specs.Replication.{reply}
 use Rattle.ring_model.specs.Elections.{answer_by, answer_request, candidate_hears, cast_actions, count_grant, elect, floor_of, grant_vote, granted_now, has_granted, has_won, lead, lead_or_ask, leading, may_elect, new_vote, on_reply, on_request, refuse_vote, refused_now, requests, stand, stand_actions, voter_answers}
 use Rattle.ring_model.specs.Steps.{demoted, idle, own_entry, stepped, unknowns}
-use Rattle.ring_model.proofs.Lists.{both_true}
+use Rattle.ring_types.proofs.Booleans.{both_true}
 use Rattle.ring_model.proofs.HeldElections.{done_join}
 use Rattle.ring_lawful.proofs.Along.{Allowed, allowed_join}
 use Rattle.ring_lawful.proofs.Sized.{AllFit, May, Sized, none_later, turns}

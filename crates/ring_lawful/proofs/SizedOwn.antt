@@ -1,5 +1,5 @@
 -- A leader's own entries fit, for a write or a rotation that would go beyond a limit is refused.
-use Rattle.std.proofs.Common.{◌≡◌, ℕ, ◌+◌, ◌-◌, ◌^◌, ◌<◌, ◌≤◌, ◌==◌, ◌&&◌, ◌||◌, [], ◌∷◌, ◌∙◌, if◌then◌else◌, Bool, List, None, Option, Some, ap, arith, false, length, not, refl, suc, sym, true}
+use Rattle.std.proofs.Common.{◌≡◌, ℕ, ◌+◌, ◌-◌, ◌^◌, ◌<◌, ◌≤◌, ◌==◌, ◌&&◌, [], ◌∷◌, ◌∙◌, if◌then◌else◌, Bool, List, None, Option, Some, ap, arith, false, length, not, refl, suc, sym, true}
 use Rattle.std.proofs.lemmas.Bool.Decides.{nat_tests}
 use Rattle.std.specs.Prelude.{min, nat_le, nat_lt}
 use Rattle.std.specs.List.{list_all}
@@ -31,7 +31,7 @@ use Rattle.ring_model.specs.Replication.{counts, file_limit, file_number, heard_
 use Rattle.ring_model.specs.Steps.{demoted, idle, own_entry, stepped, unknowns}
 use Rattle.ring_model.specs.Transfers.{after_ok, has_matched, on_answer, with_more}
 use Rattle.ring_model.specs.Writes.{awaits, change_refusal, committed_rows, is_exhausted, is_handing, length_limit, lock_of, lock_refusal, refused, rotate, rotate_refusal, rotate_step, size_refusal, write, write_entry, write_entry_step, write_refusal, write_txn}
-use Rattle.ring_model.proofs.Lists.{both_true}
+use Rattle.ring_types.proofs.Booleans.{both_false, both_true}
 use Rattle.ring_lawful.proofs.Payloads.{checked_fit, number_fits}
 use Rattle.ring_lawful.proofs.Sized.{AllFit, Sized, fit_join, rotates_is, turns}
 use Rattle.ring_lawful.proofs.SizedSteps.{IsShort, Keeps, advance_keeps, idle_keeps, own_fits, quiet_keeps, raise_keeps}
@@ -97,14 +97,6 @@ small_is n is = grind (arith, nat_tests, is)
 short_is : (n : ℕ) → nat_le (TERM_END - 1) n ≡ false → suc n < TERM_END
 short_is n is = grind (arith, nat_tests, is)
 
-second_false : (a b : Bool) → (a || b) ≡ false → b ≡ false
-second_false false b is = is
-second_false true b is = absurd (let z : true ≡ false = is in cc)
-
-first_false : (a b : Bool) → (a || b) ≡ false → a ≡ false
-first_false false b is = refl
-first_false true b is = absurd (let z : true ≡ false = is in cc)
-
 sizes_fit : (ring : Layout) (me : ℕ) (d : Durable) (changes : List Change) → size_refusal ring me d changes ≡ None
     → (group_bytes ring.schema (payload.Txn (write_txn ring me d changes)) ≤ group_limit) × (suc (length d.log) < TERM_END) × (is_number (write_txn ring me d changes).gtid.number ≡ true)
 sizes_fit ring me d changes is = go (nat_lt group_limit (group_size ring.schema (payload.Txn (write_txn ring me d changes)))) refl (is_exhausted ring me d) refl is
@@ -115,7 +107,11 @@ sizes_fit ring me d changes is = go (nat_lt group_limit (group_size ring.schema 
     go true x b y is = absurd cc
     go false x true y is = absurd cc
     go false x false y is =
-        (small_is (group_bytes ring.schema (payload.Txn (write_txn ring me d changes))) x, short_is (length d.log) (second_false _ (nat_le length_limit (length d.log)) y), number_fits (greatest_number (server_of ring me) d.log) (first_false _ (nat_le length_limit (length d.log)) y))
+        let room = both_false _ (nat_le length_limit (length d.log)) y in (
+          small_is (group_bytes ring.schema (payload.Txn (write_txn ring me d changes))) x,
+          short_is (length d.log) room.1,
+          number_fits (greatest_number (server_of ring me) d.log) room.0,
+        )
 
 lock_asked : (ring : Layout) (me : ℕ) (d : Durable) (changes : List Change) → lock_refusal ring me d changes ≡ None → size_refusal ring me d changes ≡ None
 lock_asked ring me d changes is = go (lock_of d.prepared changes) is
@@ -206,7 +202,7 @@ may_rotate ring me d s is = go (is_leader s.role) refl (is_ready s) (is_handing 
     go true x true false false y true z is = absurd cc
     go true x true false false y false z is = record {
       leads = leads_is s x;
-      short = short_is (length d.log) (second_false _ (nat_le length_limit (length d.log)) y);
+      short = short_is (length d.log) (both_false _ (nat_le length_limit (length d.log)) y).1;
       files = (let w = file_is (rotates d.log) z in let q = rotates_is d.log in omega (arith, w, q));
     }
 

@@ -20,7 +20,7 @@ use Rattle.ring_model.specs.Nodes.{is_leader}
 use Rattle.ring_model.specs.Replication.{accept, first_tear, follow_append, kept_position, leads_it, match_append, on_append, outgrows, reply, take_in, tear_in, terms_of, unmatched}
 use Rattle.ring_model.specs.Steps.{demoted, follow_actions, greater_of, idle, smaller_of, stepped, unknowns}
 use Rattle.ring_model.proofs.GreaterOf.{greater_by, smaller_low}
-use Rattle.ring_model.proofs.Lists.{both_true}
+use Rattle.ring_types.proofs.Booleans.{both_true}
 use Rattle.ring_model.proofs.HeldElections.{done_join}
 use Rattle.ring_lawful.proofs.Along.{Allowed, allowed_join}
 use Rattle.ring_lawful.proofs.EngineAppend.{follow_log}

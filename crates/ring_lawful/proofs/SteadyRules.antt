@@ -35,7 +35,7 @@ use Rattle.ring_model.specs.Elections.{elect}
 use Rattle.ring_model.specs.Steps.{demoted, idle, message, own_entry, stepped, unknowns}
 use Rattle.ring_model.specs.Transfers.{after_ok, ask_transfer, begin_mock, begin_round, cancel, count_answer, is_off, is_old_round, mock_hears, on_answer, on_mock_reply, on_mock_request, on_mock_result, on_mock_start, on_timeout, passes, result_heard, transfer_hears, transfer_refusal, with_answer, with_more}
 use Rattle.ring_model.specs.Writes.{awaits, refused, rotate, rotate_refusal, rotate_step, write, write_entry, write_entry_step, write_refusal, write_txn}
-use Rattle.ring_model.proofs.Lists.{both_true}
+use Rattle.ring_types.proofs.Booleans.{both_true}
 use Rattle.ring_lawful.proofs.Chains.{Chain, Ordered, length_join}
 use Rattle.ring_lawful.proofs.Steady.{Counted, Steady, idle_steady, quiet_steady}
 use Rattle.ring_lawful.proofs.SteadyAppend.{append_steady}

@@ -13,7 +13,7 @@ use Rattle.ring_model.specs.declared.effects.Tear.{Tear}
 use Rattle.ring_model.specs.declared.nodes.Durable.{Durable}
 use Rattle.ring_model.specs.Actions.{all_done}
 use Rattle.ring_model.specs.Replication.{first_tear, take_in, terms_of, unmatched}
-use Rattle.ring_model.proofs.Lists.{both_true}
+use Rattle.ring_types.proofs.Booleans.{both_true}
 use Rattle.ring_lawful.proofs.Along.{Allowed}
 use Rattle.ring_lawful.proofs.Chains.{Chain, Orderly, end, end_last, end_take, length_join}
 

@@ -11,7 +11,7 @@ use Rattle.ring_types.specs.declared.values.Change.{Change}
 use Rattle.ring_types.specs.declared.values.Txn.{Txn}
 use Rattle.ring_types.specs.Rows.{Tables, after_payload, all_changed, changed, check, empty_tables, is_valid, is_valid_from, payload_is_accepted, rows, rows_from}
 use Rattle.ring_model.specs.Actions.{is_held, pairs_in}
-use Rattle.ring_model.proofs.Lists.{both_true}
+use Rattle.ring_types.proofs.Booleans.{both_true}
 use Rattle.ring_lawful.proofs.Locks.{changed_length, check_alike, keys_stay}
 
 -- ---- how many tables there are

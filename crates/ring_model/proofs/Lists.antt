@@ -5,9 +5,6 @@ use Rattle.std.specs.Prelude.{nat_lt, slice_get}
 use Rattle.std.specs.List.{Contains, filter, list_any, list_all}
 use Rattle.ring_model.specs.Quorums.{is_listed}
 
-pub lt_test : (a b : ℕ) → a < b → nat_lt a b ≡ true
-lt_test a b h = grind (arith, nat_tests)
-
 pub none_contained : {X : Type 0} (x : X) → Contains [] x → ⊥
 none_contained x c = omega (arith, c.1)
 
@@ -98,11 +95,6 @@ listed_contains xs x t = let y = any_of (λ (w : ℕ). w == x) xs t in let z : y
 
 pub contains_listed : (xs : List ℕ) (x : ℕ) → Contains xs x → is_listed xs x ≡ true
 contains_listed xs x c = any_true (λ (w : ℕ). w == x) xs x c (grind (arith, nat_tests))
-
--- both parts of a test that holds
-pub both_true : (a b : Bool) → (a && b) ≡ true → (a ≡ true) × (b ≡ true)
-both_true true b t = (refl, t)
-both_true false b t = absurd (let z : false ≡ true = t in cc)
 
 -- ---- places
 placed_first : {X : Type 0} (y : X) (x : X) → Some y ≡ Some x → y ≡ x

@@ -25,7 +25,7 @@ use Rattle.ring_model.proofs.Paths.{Ends, Goes_on, Path, path_keeps}
 use Rattle.ring_model.proofs.HeldElections.{done_join, path_join, quiet_join}
 use Rattle.ring_model.proofs.Turns.{IsRow, Sent_all}
 use Rattle.ring_model.proofs.Advance.{Led_on, QuietPath, advance_row, engine_action, leader_at, no_actions}
-use Rattle.ring_model.proofs.Plain.{same_role, stays_holding}
+use Rattle.ring_model.proofs.Plain.{said_row, same_role, stays_holding}
 use Rattle.ring_model.proofs.Elect.{seal_longer}
 
 -- a leader adds an entry, after the engine's work alone
@@ -64,17 +64,7 @@ add_row ring h id d s t first x says k n r role same_role same_count same_peers 
 
 pub refused_row : (ring : Layout) (h : History) (id client : ℕ) (c : Cause) (d : Durable) (s : Soft) → IsRunning ring h id d s
     → IsRow ring h id d s (refused s client c)
-refused_row ring h id client c d s r = record {
-  acted = h;
-  path = Ends;
-  sent = h;
-  sends = Sent_all;
-  role = r.role;
-  sealed = r.sealed;
-  applied = r.applied;
-  reaches = inl r.chosen;
-  holding = stays_holding ring id h d s s refl;
-}
+refused_row ring h id client c d s r = said_row ring h id d s _ r
 
 -- only a leader is not refused
 pub write_leads : (ring : Layout) (id : ℕ) (d : Durable) (s : Soft) (changes : List Change) → write_refusal ring id d s changes ≡ None → s.role ≡ Leader
