@@ -1,5 +1,5 @@
 -- A leader that adds an entry of its own, for a write or a rotate: its book goes on with it, and its commit count rises as the holders allow.
-use Rattle.std.proofs.Common.{inl, ◌≡◌, ℕ, ◌≤◌, [], ◌∷◌, ◌++◌, ◌∙◌, List, None, Option, Some, ap, arith, length, length-append, refl, subst, suc, sym}
+use Rattle.std.proofs.Common.{◌≡◌, ℕ, ◌≤◌, [], ◌∷◌, ◌++◌, ◌∙◌, List, None, Option, Some, ap, arith, length, length-append, refl, subst, suc, sym}
 use Rattle.ring_types.specs.declared.values.Change.{Change}
 use Rattle.ring_types.specs.declared.entries.Entry.{Entry}
 use Rattle.ring_types.specs.Rings.{Layout, region_of}
@@ -23,9 +23,9 @@ use Rattle.ring_model.proofs.Leading.{MayAdd, with_book}
 use Rattle.ring_model.proofs.Moves.{Adds}
 use Rattle.ring_model.proofs.Paths.{Ends, Goes_on, Path, path_keeps}
 use Rattle.ring_model.proofs.HeldElections.{done_join, path_join, quiet_join}
-use Rattle.ring_model.proofs.Turns.{IsRow, Sent_all}
+use Rattle.ring_model.proofs.Turns.{IsRow}
 use Rattle.ring_model.proofs.Advance.{Led_on, QuietPath, advance_row, engine_action, leader_at, no_actions}
-use Rattle.ring_model.proofs.Plain.{said_row, same_role, stays_holding}
+use Rattle.ring_model.proofs.Plain.{said_row, same_role}
 use Rattle.ring_model.proofs.Elect.{seal_longer}
 
 -- a leader adds an entry, after the engine's work alone
