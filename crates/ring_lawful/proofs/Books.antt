@@ -95,17 +95,21 @@ module _ (ring : Layout) (P : List Entry → Type 0) (kept : IsKept ring P) wher
       go (inl f) = absurd (f.3 (let same : f.0 ≡ e = k.one_leader f.0 e (more f.0 f.1) in_e (f.2 ∙ sym of_term) in ap (λ (w : Election). w.node) same ∙ by))
 
   new_books : (h g : History) (id : ℕ) (d : Durable) (a : Action) → Guarded ring id h d a g → BooksHold P h → P (done d a).log → BooksHold P g
-  new_books h g id d a move b p e in_e = elim (guarded_books ring id h g d a move e in_e) [ inl old ↦ subst P (sym old.1) (b e old.0) | inr new ↦ subst P (sym new) p ]
+  new_books h g id d a move b p e in_e =
+      elim (guarded_books ring id h g d a move e in_e) [ inl old ↦ subst P (sym old.1) (b e old.0) | inr new ↦ subst P (sym new) p ]
 
   guarded_holds : (h g : History) (id : ℕ) (d : Durable) (a : Action) → IsHistory ring h → IsNode ring h id d → Guarded ring id h d a g → MayGrow h id P d a
       → BooksHold P h → BooksHold P g
   guarded_holds h g id d a k n (Leads e x is may same) m b =
       let y = guarded_keeps ring id h g d a k n (Leads e x is may same) in
-      let here : Contains g.elections e = subst (λ (w : History). Contains w.elections e) (sym same) (Contains-append_right h.elections (e ∷ []) e (zero, omega arith, refl)) in
-      new_books h g id d a (Leads e x is may same) b (own_holds h g id d a e x is y.history y.grows.elections here may.by may.of_term m (log_holds h d.term d.log b n.log))
+      let here : Contains g.elections e =
+      subst (λ (w : History). Contains w.elections e) (sym same) (Contains-append_right h.elections (e ∷ []) e (zero, omega arith, refl)) in
+      new_books h g id d a (Leads e x is may same) b
+      (own_holds h g id d a e x is y.history y.grows.elections here may.by may.of_term m (log_holds h d.term d.log b n.log))
   guarded_holds h g id d a k n (Adds e x is may same) m b =
       let y = guarded_keeps ring id h g d a k n (Adds e x is may same) in
-      new_books h g id d a (Adds e x is may same) b (own_holds h g id d a e x is y.history y.grows.elections (y.grows.elections e may.led) may.by may.of_term m (log_holds h d.term d.log b n.log))
+      new_books h g id d a (Adds e x is may same) b
+      (own_holds h g id d a e x is y.history y.grows.elections (y.grows.elections e may.led) may.by may.of_term m (log_holds h d.term d.log b n.log))
   guarded_holds h g id d a k n (Raises t is up low same) m b = subst (BooksHold P) (sym same) b
   guarded_holds h g id d a k n (Votes c floor is may same) m b = subst (BooksHold P) (sym same) b
   guarded_holds h g id d a k n (Cuts p is may same) m b = subst (BooksHold P) (sym same) b
@@ -118,7 +122,8 @@ module _ (ring : Layout) (P : List Entry → Type 0) (kept : IsKept ring P) wher
   path_holds h g id d [] k n Ends a b = b
   path_holds h g id d (s ∷ rest) k n (Goes_on {g = m} move path) a b =
       let y = guarded_keeps ring id h m d s k n move in
-      path_holds m g id (done d s) rest y.history y.node path (all_more h m id P (done d s) rest y.grows.elections a.1) (guarded_holds h m id d s k n move a.0 b)
+      path_holds m g id (done d s) rest y.history y.node path (all_more h m id P (done d s) rest y.grows.elections a.1)
+      (guarded_holds h m id d s k n move a.0 b)
 
   -- ---- a step, however far it went
   input_led : (h : History) (id : ℕ) (i : Input) → IsHistory ring h → IsGiven h.messages id i → InputIsLed ring h id i
@@ -210,4 +215,6 @@ module _ (ring : Layout) (P : List Entry → Type 0) (kept : IsKept ring P) wher
 
   -- and so has each node's log
   pub logs_hold : (run : List Move) → IsRing ring → IsRun ring run → (id : ℕ) → P ((world ring run).nodes id).durable.log
-  logs_hold run valid is id = let x = booked run valid is in log_holds x.history ((world ring run).nodes id).durable.term ((world ring run).nodes id).durable.log x.books (x.world.nodes id).log
+  logs_hold run valid is id =
+      let x = booked run valid is in
+      log_holds x.history ((world ring run).nodes id).durable.term ((world ring run).nodes id).durable.log x.books (x.world.nodes id).log

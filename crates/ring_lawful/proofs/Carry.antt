@@ -20,7 +20,8 @@ use Rattle.ring_model.specs.Nodes.{Node, empty_durable, fresh_soft, recover}
 use Rattle.ring_model.specs.Runs.{IsRun, IsRunFrom, Move, is_known, is_whole_input, world, world_from}
 use Rattle.ring_model.specs.WellFormed.{IsNearlyWellFormed}
 use Rattle.ring_model.specs.Worlds.{ComeUp, Completion, Cut, GoDown, Handle, Rest, Task, Whole, WorldState, at_node, first_world, given, given_to, handled, line_step, member_turn, message_at, moved, next_given, next_to, passed, restart_actions, skipped, turn, turned, with_node, world_step}
-use Rattle.ring_model.proofs.Lists.{both_true, none_contained}
+use Rattle.ring_types.proofs.Booleans.{both_true}
+use Rattle.ring_model.proofs.Lists.{none_contained}
 use Rattle.ring_model.proofs.Turns.{node_here, node_other}
 use Rattle.ring_lawful.specs.EachStep.{IsFitNode, IsFitPart, IsGood}
 use Rattle.ring_lawful.proofs.EachStep.{every_step_is_possible, every_step_keeps_lawful}
@@ -57,7 +58,8 @@ module _ (ring : Layout) where
       | inl same ↦
           let up' : (with_node w.nodes id n id).soft ≡ Some s = subst (λ (i : ℕ). (with_node w.nodes id n i).soft ≡ Some s) same up in
           let so : n.soft ≡ Some s = sym (ap (λ (m : Node). m.soft) (node_here w.nodes id n)) ∙ up' in
-          subst (λ (i : ℕ). IsFitNode ring i (with_node w.nodes id n i).durable s) (sym same) (subst (λ (m : Node). IsFitNode ring id m.durable s) (sym (node_here w.nodes id n)) (running s so))
+          subst (λ (i : ℕ). IsFitNode ring i (with_node w.nodes id n i).durable s) (sym same)
+          (subst (λ (m : Node). IsFitNode ring id m.durable s) (sym (node_here w.nodes id n)) (running s so))
       | inr other ↦
           let was : (w.nodes j).soft ≡ Some s = sym (ap (λ (m : Node). m.soft) (node_other w.nodes id j n other)) ∙ up in
           subst (λ (m : Node). IsFitNode ring j m.durable s) (sym (node_other w.nodes id j n other)) (x.running j s was)
@@ -68,7 +70,8 @@ module _ (ring : Layout) where
   -- a node that is down after its turn
   downed_fits : (w : WorldState) (id : ℕ) (d : Durable) (cuts : List ℕ) → IsFit ring w → IsFitPart ring id d
       → IsFit ring (turned w id (record { durable = d; soft = None }) [] [] cuts)
-  downed_fits w id d cuts x node = turned_fits w id (record { durable = d; soft = None }) [] [] cuts x node (λ o so. absurd cc) (λ m in_m. absurd (none_contained m in_m))
+  downed_fits w id d cuts x node =
+      turned_fits w id (record { durable = d; soft = None }) [] [] cuts x node (λ o so. absurd cc) (λ m in_m. absurd (none_contained m in_m))
 
   same_fits : (w v : WorldState) → v.nodes ≡ w.nodes → v.messages ≡ w.messages → IsFit ring w → IsFit ring v
   same_fits w v nodes messages x = record {
@@ -89,7 +92,8 @@ module _ (ring : Layout) where
       (λ m in_m. (every_step_sends_well_formed ring id d s i (x.running id s up) g m in_m).0)
   handled_fits w id i (Cut count) (Some s) up g x =
       let d = (w.nodes id).durable in
-      downed_fits w id (all_done d (take count (step ring id d s i).plan.actions)) (count ∷ []) x ((every_step_is_possible ring id d s i (x.running id s up) g).1 count)
+      downed_fits w id (all_done d (take count (step ring id d s i).plan.actions)) (count ∷ []) x
+      ((every_step_is_possible ring id d s i (x.running id s up) g).1 count)
 
   turn_fits : (w : WorldState) (id : ℕ) (task : Task) (completion : Completion) → IsGoodTask ring task → IsFit ring w
       → IsFit ring (turn ring w id task completion)
@@ -124,14 +128,16 @@ module _ (ring : Layout) where
   given_to_fits : (w : WorldState) (id : ℕ) (completion : Completion) (number : ℕ) (o : Option Message) → message_at w.messages number ≡ o → IsFit ring w
       → IsFit ring (given_to ring w id completion o)
   given_to_fits w id completion number None is x = member_fits w id Rest completion tt x
-  given_to_fits w id completion number (Some m) is x = member_fits w m.to (Handle (input.Deliver m)) completion (x.messages m (in_number w.messages number m is)) x
+  given_to_fits w id completion number (Some m) is x =
+      member_fits w m.to (Handle (input.Deliver m)) completion (x.messages m (in_number w.messages number m is)) x
 
   moved_fits : (w : WorldState) (id number : ℕ) → IsFit ring w → IsFit ring (moved w id number)
   moved_fits w id number x = same_fits w (moved w id number) refl refl x
 
   next_fits : (w : WorldState) (id : ℕ) (completion : Completion) (o : Option ℕ) → IsFit ring w → IsFit ring (next_given ring w id completion o)
   next_fits w id completion None x = member_fits w id Rest completion tt x
-  next_fits w id completion (Some number) x = given_to_fits (moved w id number) id completion number (message_at w.messages number) refl (moved_fits w id number x)
+  next_fits w id completion (Some number) x =
+      given_to_fits (moved w id number) id completion number (message_at w.messages number) refl (moved_fits w id number x)
 
   skipped_fits : (w : WorldState) (id : ℕ) (completion : Completion) (o : Option ℕ) → IsFit ring w → IsFit ring (skipped ring w id completion o)
   skipped_fits w id completion None x = member_fits w id Rest completion tt x
@@ -142,7 +148,8 @@ module _ (ring : Layout) where
   at_fits w id (input.Deliver m) completion whole x = member_fits w id Rest completion tt x
   at_fits w id input.Elect completion whole x = member_fits w id (Handle input.Elect) completion tt x
   at_fits w id input.Beat completion whole x = member_fits w id (Handle input.Beat) completion tt x
-  at_fits w id (input.Write client changes) completion whole x = member_fits w id (Handle (input.Write client changes)) completion (grind (arith, nat_tests, whole)) x
+  at_fits w id (input.Write client changes) completion whole x =
+      member_fits w id (Handle (input.Write client changes)) completion (grind (arith, nat_tests, whole)) x
   at_fits w id (input.Rotate client) completion whole x = member_fits w id (Handle (input.Rotate client)) completion tt x
   at_fits w id (input.Transfer client target) completion whole x = member_fits w id (Handle (input.Transfer client target)) completion tt x
   at_fits w id (input.Cancel client) completion whole x = member_fits w id (Handle (input.Cancel client)) completion tt x

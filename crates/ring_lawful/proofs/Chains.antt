@@ -13,7 +13,7 @@ use Rattle.ring_model.specs.declared.effects.Action.TheVariants as action
 use Rattle.ring_model.specs.declared.nodes.Durable.{Durable}
 use Rattle.ring_model.specs.Actions.{all_done, done, is_prepared, pair_of}
 use Rattle.ring_model.specs.Steps.{engine_actions, follow_actions, prepare_entry}
-use Rattle.ring_model.proofs.Lists.{both_true}
+use Rattle.ring_types.proofs.Booleans.{both_true}
 use Rattle.ring_lawful.proofs.Keeps.{KeepsOrder}
 use Rattle.ring_lawful.proofs.Along.{Allowed, Along, allowed_along, allowed_join, along_end}
 use Rattle.ring_lawful.proofs.Sized.{all_join, all_take, all_weaker}

@@ -1,5 +1,5 @@
 -- In every world of every run the chosen sequence, and each node's log, is valid and has no GTID twice: locks and checks keep a write apart from what is not applied yet, and its number is above its server's others.
-use Rattle.std.proofs.Common.{◌≡◌, ℕ, ◌||◌, [], ◌∷◌, ◌++◌, ◌∙◌, if◌then◌else◌, Bool, List, None, Option, Some, ap, drop, false, length, not, refl, subst, true}
+use Rattle.std.proofs.Common.{◌≡◌, ℕ, [], ◌∷◌, ◌++◌, ◌∙◌, if◌then◌else◌, Bool, List, None, Option, Some, ap, drop, false, length, not, refl, subst, true}
 use Rattle.std.specs.Prelude.{is_none, nat_le, nat_lt}
 use Rattle.std.specs.List.{list_any}
 use Rattle.ring_types.specs.declared.entries.Entry.{Entry}
@@ -20,6 +20,7 @@ use Rattle.ring_model.specs.Nodes.{is_leader, is_ready}
 use Rattle.ring_model.specs.Runs.{IsRun, Move, world}
 use Rattle.ring_model.specs.Safety.{ChosenIsValid, EveryRunAppliesChosen, EveryRunIsSafe}
 use Rattle.ring_model.specs.Writes.{change_refusal, committed_rows, is_exhausted, is_handing, length_limit, lock_of, lock_refusal, size_refusal, write_entry, write_refusal, write_txn}
+use Rattle.ring_types.proofs.Booleans.{both_false}
 use Rattle.ring_model.proofs.Runs.{safe_logs}
 use Rattle.ring_lawful.specs.Lawful.{EveryLogIsValid, EveryRunChoosesValid}
 use Rattle.ring_lawful.proofs.Books.{IsKept, chosen_holds, logs_hold}
@@ -31,10 +32,6 @@ use Rattle.ring_lawful.proofs.Pairs.{between_all}
 use Rattle.ring_lawful.proofs.EveryRun.{prepared_agrees}
 
 -- ---- what a write that is not refused passed
-first_false : (a b : Bool) → (a || b) ≡ false → a ≡ false
-first_false false b is = refl
-first_false true b is = absurd (let z : true ≡ false = is in cc)
-
 -- its changes are accepted by the applied rows, and its server has a next number
 record Passed (ring : Layout) (me : ℕ) (d : Durable) (changes : List Change) : Type 0 where
   accepted : check ring.schema (committed_rows ring d) changes ≡ None
@@ -49,7 +46,7 @@ sizes_passed ring me d changes is = go (nat_lt group_limit (group_size ring.sche
         → is_none (next_number (server_of ring me) d.log) ≡ false
     go true b y is = absurd cc
     go false true y is = absurd cc
-    go false false y is = first_false (is_none (next_number (server_of ring me) d.log)) (nat_le length_limit (length d.log)) y
+    go false false y is = (both_false (is_none (next_number (server_of ring me) d.log)) (nat_le length_limit (length d.log)) y).0
 
 locks_passed : (ring : Layout) (me : ℕ) (d : Durable) (changes : List Change) → lock_refusal ring me d changes ≡ None
     → is_none (next_number (server_of ring me) d.log) ≡ false

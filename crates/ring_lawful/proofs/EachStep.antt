@@ -30,12 +30,13 @@ use Rattle.ring_lawful.proofs.Sends.{Tells}
 use Rattle.ring_lawful.proofs.Sized.{May, Sized, sized_one}
 use Rattle.ring_lawful.proofs.SizedSteps.{Keeps}
 use Rattle.ring_lawful.proofs.Sound.{sound_from}
-use Rattle.ring_lawful.proofs.SteadyAppend.{Near, Steady}
+use Rattle.ring_lawful.proofs.Steady.{Near, Steady}
 use Rattle.ring_lawful.proofs.SteadyRules.{step_steady}
 
 near_each : (len : ℕ) (peers : List Peer) → Near len peers → (p : Peer) → Contains peers p → (p.matched < p.next) × (p.next ≤ len + 1)
 near_each len [] n p c = absurd (omega (arith, c.1))
-near_each len (q ∷ peers) n p c = elim (cons_cases q peers p c) [ inl here ↦ subst (λ (w : Peer). (w.matched < w.next) × (w.next ≤ len + 1)) here n.0 | inr there ↦ near_each len peers n.1 p there ]
+near_each len (q ∷ peers) n p c =
+    elim (cons_cases q peers p c) [ inl here ↦ subst (λ (w : Peer). (w.matched < w.next) × (w.next ≤ len + 1)) here n.0 | inr there ↦ near_each len peers n.1 p there ]
 
 -- ---- one step
 module _ (ring : Layout) (me : ℕ) (d : Durable) (s : Soft) (i : Input) (x : IsFitNode ring me d s) (g : IsGood ring i) where
@@ -109,7 +110,8 @@ module _ (ring : Layout) (me : ℕ) (d : Durable) (s : Soft) (i : Input) (x : Is
       (lawful_from ring me (all_done d actions) st.soft part.0 counts (runs_of ring me (all_done d actions) st.soft engine_end running) keeps.short soft, part.1)
 
   pub step_sound : (n : ℕ) → IsFitPart ring me (all_done d (take n actions))
-  step_sound n = fit_part (all_done d (take n actions)) (along_cut Ordered d actions n along_order) (along_cut (Sized ring) d actions n along_size) (engine_cut n)
+  step_sound n =
+      fit_part (all_done d (take n actions)) (along_cut Ordered d actions n along_order) (along_cut (Sized ring) d actions n along_size) (engine_cut n)
 
   can : (b : Bool) → runs_engine ring me ≡ b → Allowed Can d actions
   can true runs = (both.engine runs (runs_from ring me d s x.0 runs)).can

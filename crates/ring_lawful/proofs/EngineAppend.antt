@@ -97,7 +97,13 @@ cut_then e k kept more x low high placed =
       prepared = ap (filter (λ (p : Pair). nat_le p.opid.position kept)) x.prepared ∙ r.3;
     } in
     let clean_f = append_clean b r.0 more clean_b placed in
-    record { along = (clean_has e k x, (has_a, (clean_has b r.0 clean_b, clean_has (done b (action.Append more)) r.0 clean_f))); can = (tt, (tt, (tt, tt))); k = r.0; clean = clean_f; applied = refl }
+    record {
+      along = (clean_has e k x, (has_a, (clean_has b r.0 clean_b, clean_has (done b (action.Append more)) r.0 clean_f)));
+      can = (tt, (tt, (tt, tt)));
+      k = r.0;
+      clean = clean_f;
+      applied = refl;
+    }
 
 taken_clean : (ring : Layout) (me : ℕ) (e : Durable) (kept k : ℕ) (rest : List Entry) (more : List Action) → runs_engine ring me ≡ true → Clean e k
     → Placed (all_done e (take_in ring me e kept rest)).log
@@ -116,7 +122,8 @@ taken_clean ring me e kept k (y ∷ rest) more runs x placed cuts = go (nat_lt k
     go true is placed cuts =
         let low : e.applied ≤ length (take kept e.log) = cuts 1 in
         let short = take_short kept e.log in
-        let at : Placed (take kept e.log ++ (y ∷ rest)) = subst (λ (r : List Action). Placed (all_done e (action.Truncate kept ∷ (r ++ (action.Append (y ∷ rest) ∷ [])))).log) roll_is placed in
+        let at : Placed (take kept e.log ++ (y ∷ rest)) =
+        subst (λ (r : List Action). Placed (all_done e (action.Truncate kept ∷ (r ++ (action.Append (y ∷ rest) ∷ [])))).log) roll_is placed in
         subst (λ (r : List Action). Taken e (action.Truncate kept ∷ (r ++ (action.Append (y ∷ rest) ∷ [])))) (sym roll_is)
         (cut_then e k kept (y ∷ rest) x (omega (arith, low, short)) (let z : kept < length e.log = grind (arith, nat_tests, is) in omega (arith, z)) at)
     go false is placed cuts =
@@ -162,7 +169,8 @@ accept_engine ring me d s first says sent runs r fits =
     record {
       along = along_join HasPairs d first (acts ++ more) r.along (along_join HasPairs e acts more t.along y.along);
       can = allowed_join Can d first (acts ++ more) r.can (allowed_join Can e acts more t.can y.can);
-      after = subst (λ (w : Durable). EngineRuns w (record s { commit = c })) (sym j) (stands_down g (record s { commit = c }) t.k (followed_clean f t.k c more t.clean high y) (sym y.applied) r.stands);
+      after = subst (λ (w : Durable). EngineRuns w (record s { commit = c })) (sym j)
+          (stands_down g (record s { commit = c }) t.k (followed_clean f t.k c more t.clean high y) (sym y.applied) r.stands);
     }
 
 taken_tail : (ring : Layout) (me : ℕ) (d : Durable) (kept : ℕ) (rest : List Entry) → runs_engine ring me ≡ false → AllTail (take_in ring me d kept rest)
@@ -180,7 +188,10 @@ match_both : (ring : Layout) (me : ℕ) (d : Durable) (o s : Soft) (first : List
 match_both ring me d o s first says sent ready quiet fits = go (nat_lt (length d.log) sent.prev.position) (term_at d.log sent.prev.position == sent.prev.term) fits
   where
     refusing : (p : ℕ) → Both ring me d o (stepped first (reply me sent.leader sent.term false p ∷ []) says s)
-    refusing p = record { engine = λ runs r. (let x = ready runs r in record { along = x.along; can = x.can; after = stands_down (all_done d first) s x.k x.clean x.follows x.stands }); tail = λ runs. quiet }
+    refusing p = record {
+      engine = λ runs r. (let x = ready runs r in record { along = x.along; can = x.can; after = stands_down (all_done d first) s x.k x.clean x.follows x.stands });
+      tail = λ runs. quiet;
+    }
 
     go : (a b : Bool)
         → Fits d (if a then stepped first (reply me sent.leader sent.term false (length d.log) ∷ []) says s else (if b then accept ring me d s first says sent else stepped first (reply me sent.leader sent.term false (sent.prev.position - 1) ∷ []) says s)).plan.actions
@@ -210,8 +221,12 @@ follow_both ring me d s sent fits = go (nat_lt d.term sent.term) s.role refl fit
     go true o z fits = match_both ring me d s (demoted s) (action.SetTerm sent.term ∷ []) (unknowns s) sent
         (λ runs r. let x = clean_at d (done d (action.SetTerm sent.term)) r.k refl refl refl r.clean in record { along = (clean_has d r.k r.clean, clean_has (done d (action.SetTerm sent.term)) r.k x); can = (tt, tt); k = r.k; clean = x; follows = r.follows; same = refl; stands = refl })
         (tt, tt) fits
-    go false Follower z fits = match_both ring me d s s [] [] sent (λ runs r. record { along = clean_has d r.k r.clean; can = tt; k = r.k; clean = r.clean; follows = r.follows; same = refl; stands = ap is_leader z }) tt fits
-    go false Candidate z fits = match_both ring me d s (demoted s) [] (unknowns s) sent (λ runs r. record { along = clean_has d r.k r.clean; can = tt; k = r.k; clean = r.clean; follows = r.follows; same = refl; stands = refl }) tt fits
+    go false Follower z fits =
+        match_both ring me d s s [] [] sent
+        (λ runs r. record { along = clean_has d r.k r.clean; can = tt; k = r.k; clean = r.clean; follows = r.follows; same = refl; stands = ap is_leader z }) tt fits
+    go false Candidate z fits =
+        match_both ring me d s (demoted s) [] (unknowns s) sent
+        (λ runs r. record { along = clean_has d r.k r.clean; can = tt; k = r.k; clean = r.clean; follows = r.follows; same = refl; stands = refl }) tt fits
     go false Leader z fits = idle_both ring me d s
 
 pub append_both : (ring : Layout) (me : ℕ) (sent : Append) (d : Durable) (s : Soft)

@@ -37,7 +37,9 @@ follow_tail ring me d c runs = rw runs tt
 pub advance_tail : (ring : Layout) (me : ℕ) (d : Durable) (s : Soft) (first : List Action) (says : List Say) → runs_engine ring me ≡ false → AllTail first
     → AllTail (advance ring me d s first says).plan.actions
 unfolding advance
-advance_tail ring me d s first says runs x = tail_join first (follow_actions ring me (all_done d first) (commit_count ring me (all_done d first).term (all_done d first).log s)) x (follow_tail ring me (all_done d first) (commit_count ring me (all_done d first).term (all_done d first).log s) runs)
+advance_tail ring me d s first says runs x =
+    tail_join first (follow_actions ring me (all_done d first) (commit_count ring me (all_done d first).term (all_done d first).log s)) x
+    (follow_tail ring me (all_done d first) (commit_count ring me (all_done d first).term (all_done d first).log s) runs)
 
 -- what a rule owes, with an engine and without
 pub record Both (ring : Layout) (me : ℕ) (d : Durable) (s : Soft) (st : Step) : Type 0 where

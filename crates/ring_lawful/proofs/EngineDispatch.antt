@@ -83,7 +83,8 @@ count_both : (ring : Layout) (me from : ℕ) (answer : MockReply) (d : Durable) 
 count_both ring me from answer d s leader asked passed failed = go (is_listed passed from || is_listed failed from) answer.ok
   where
     with_both : (more_passed more_failed : List ℕ) → Both ring me d s (with_answer ring me d s leader answer.round asked passed failed more_passed more_failed)
-    with_both more_passed more_failed = quiet_both ring me d s (record s { mock = mock.On leader answer.round asked more_passed more_failed }) _ [] refl refl refl
+    with_both more_passed more_failed =
+        quiet_both ring me d s (record s { mock = mock.On leader answer.round asked more_passed more_failed }) _ [] refl refl refl
 
     go : (a b : Bool) → Both ring me d s (if a then idle s
         else (if b then with_answer ring me d s leader answer.round asked passed failed (passed ++ from ∷ []) failed else with_answer ring me d s leader answer.round asked passed failed passed (failed ++ from ∷ [])))

@@ -60,7 +60,8 @@ ask_tail ring me d s first says grants asks runs x = go (has_won ring me (all_do
     go : (b : Bool) → AllTail (if b then lead ring me d s first says grants else stepped first asks says (record s { role = Candidate; grants = grants })).plan.actions
     go true =
         let own : Entry = own_entry ring me (all_done d first) payload.NoOp in
-        advance_tail ring me d (leading ring me (suc (length (all_done d first).log)) s grants) (first ++ (action.Append (own ∷ []) ∷ [])) says runs (tail_join first (action.Append (own ∷ []) ∷ []) x (tt, tt))
+        advance_tail ring me d (leading ring me (suc (length (all_done d first).log)) s grants) (first ++ (action.Append (own ∷ []) ∷ [])) says runs
+        (tail_join first (action.Append (own ∷ []) ∷ []) x (tt, tt))
     go false = x
 
 pub elect_both : (ring : Layout) (me : ℕ) (d : Durable) (s : Soft) → Both ring me d s (elect ring me d s)
@@ -74,7 +75,8 @@ elect_both ring me d s = go (may_elect ring me d s)
           let e : Durable = all_done d (stand_actions ring me d s) in
           let x = clean_at d m r.k refl refl refl r.clean in
           let y = clean_at d e r.k refl refl refl r.clean in
-          ask_engine ring me d (demoted s) (stand_actions ring me d s) (unknowns s) _ _ r.k runs (clean_has d r.k r.clean, (clean_has m r.k x, clean_has e r.k y)) (tt, (tt, tt)) y r.follows;
+          ask_engine ring me d (demoted s) (stand_actions ring me d s) (unknowns s) _ _ r.k runs
+          (clean_has d r.k r.clean, (clean_has m r.k x, clean_has e r.k y)) (tt, (tt, tt)) y r.follows;
       tail = λ runs. ask_tail ring me d (demoted s) (stand_actions ring me d s) (unknowns s) _ _ runs (tt, (tt, tt));
     }
 
@@ -88,7 +90,8 @@ reply_both ring me from reply d s = go s.role
   where
     count : (b : Bool) → Both ring me d s (if b then lead_or_ask ring me d s [] [] (s.grants ++ record { voter = from; votes = reply.votes } ∷ []) [] else idle s)
     count true = record {
-      engine = λ runs r. ask_engine ring me d s [] [] (s.grants ++ record { voter = from; votes = reply.votes } ∷ []) [] r.k runs (clean_has d r.k r.clean) tt r.clean r.follows;
+      engine = λ runs r. ask_engine ring me d s [] [] (s.grants ++ record { voter = from; votes = reply.votes } ∷ []) [] r.k runs
+          (clean_has d r.k r.clean) tt r.clean r.follows;
       tail = λ runs. ask_tail ring me d s [] [] (s.grants ++ record { voter = from; votes = reply.votes } ∷ []) [] runs tt;
     }
     count false = idle_both ring me d s
@@ -110,7 +113,8 @@ record Before (ring : Layout) (me : ℕ) (d : Durable) (s o : Soft) (first : Lis
 
 before_both : (ring : Layout) (me : ℕ) (d : Durable) (s o : Soft) (first : List Action) (ms : List Message) (says : List Say) → Before ring me d s o first
     → Both ring me d s (stepped first ms says o)
-before_both ring me d s o first ms says b = record { engine = λ runs r. (let x = b.engine runs r in record { along = x.0; can = x.1; after = x.2 }); tail = b.tail }
+before_both ring me d s o first ms says b =
+    record { engine = λ runs r. (let x = b.engine runs r in record { along = x.0; can = x.1; after = x.2 }); tail = b.tail }
 
 vote_both : (ring : Layout) (me : ℕ) (d : Durable) (s o : Soft) (first : List Action) (v : Vote) (floor : ℕ) (ms : List Message) (says : List Say)
     → Before ring me d s o first → Both ring me d s (stepped (first ++ (action.Vote v floor ∷ [])) ms says o)

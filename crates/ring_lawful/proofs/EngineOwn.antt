@@ -22,7 +22,7 @@ use Rattle.ring_model.specs.Replication.{counts, heard_among, leader_hears, on_a
 use Rattle.ring_model.specs.Transfers.{after_ok, on_answer, with_more}
 use Rattle.ring_model.specs.Writes.{awaits, change_refusal, committed_rows, is_handing, lock_of, lock_refusal, refused, size_refusal, rotate, rotate_refusal, rotate_step, write, write_entry, write_entry_step, write_refusal, write_txn}
 use Rattle.ring_model.specs.Steps.{demoted, idle, own_entry, stepped, unknowns}
-use Rattle.ring_model.proofs.Lists.{both_true}
+use Rattle.ring_types.proofs.Booleans.{both_true}
 use Rattle.ring_lawful.proofs.Engine.{clean_has}
 use Rattle.ring_lawful.proofs.EngineSteps.{advance_step, push_clean, written}
 use Rattle.ring_lawful.proofs.EngineBoth.{Both, advance_tail, idle_both, quiet_both, raise_both}
@@ -152,7 +152,8 @@ write_both ring me client changes d s = go (write_refusal ring me d s changes) r
         record {
           engine = λ runs r.
               let w = written d p x (r.all ready.0) refl refl refl in
-              advance_step ring me d (awaits s client x (write_txn ring me d changes).gtid) (action.Prepare p ∷ action.Append (x ∷ []) ∷ []) [] (length (d.log ++ x ∷ [])) runs w.along (write_holds ring me d s changes is, (tt, tt)) w.clean r.follows
+              advance_step ring me d (awaits s client x (write_txn ring me d changes).gtid) (action.Prepare p ∷ action.Append (x ∷ []) ∷ []) []
+              (length (d.log ++ x ∷ [])) runs w.along (write_holds ring me d s changes is, (tt, tt)) w.clean r.follows
               (λ led. inl ((both_true (is_leader s.role) (nat_le s.ready_at s.commit) ready.0).1, refl));
           tail = λ runs. absurd (let z : true ≡ false = sym ready.1 ∙ runs in cc);
         }
@@ -171,7 +172,9 @@ rotate_both ring me client d s = go (rotate_refusal ring me d s) refl
           engine = λ runs r.
               let c = r.all ready in
               let y = push_clean d x c refl refl in
-              advance_step ring me d s (action.Append (x ∷ []) ∷ []) (record { client = client; what = what.Rotated x.opid } ∷ []) (length (d.log ++ x ∷ [])) runs (clean_has d (length d.log) c, clean_has (done d (action.Append (x ∷ []))) (length (d.log ++ x ∷ [])) y) (tt, tt) y r.follows
+              advance_step ring me d s (action.Append (x ∷ []) ∷ []) (record { client = client; what = what.Rotated x.opid } ∷ [])
+              (length (d.log ++ x ∷ [])) runs (clean_has d (length d.log) c, clean_has (done d (action.Append (x ∷ []))) (length (d.log ++ x ∷ [])) y)
+              (tt, tt) y r.follows
               (λ led. inl ((both_true (is_leader s.role) (nat_le s.ready_at s.commit) ready).1, refl));
           tail = λ runs. advance_tail ring me d s (action.Append (x ∷ []) ∷ []) _ runs (tt, tt);
         }

@@ -19,7 +19,7 @@ use Rattle.ring_model.specs.Actions.{all_done, done, entries_between, pairs_in}
 use Rattle.ring_model.specs.Nodes.{is_leader, is_ready, kept_pairs}
 use Rattle.ring_model.specs.Steps.{advance, commit_count, engine_actions, follow_actions, greatest, may_commit, stepped, waiting}
 use Rattle.ring_model.proofs.OwnEntry.{length_push}
-use Rattle.ring_model.proofs.Lists.{both_true}
+use Rattle.ring_types.proofs.Booleans.{both_true}
 use Rattle.ring_model.proofs.HeldElections.{done_join}
 use Rattle.ring_lawful.proofs.Along.{Allowed, Along, allowed_join, along_join}
 use Rattle.ring_lawful.proofs.Pairs.{Placed, between_more, between_push, none_between, opid_beyond, pairs_join, placed_push}
@@ -44,7 +44,8 @@ not_ready s led ready = let z = both_true (is_leader s.role) (nat_le s.ready_at 
 
 -- a follower or a candidate has no leadership to tell of
 pub stands_down : (d : Durable) (s : Soft) (k : ℕ) → Clean d k → s.commit ≡ d.applied → is_leader s.role ≡ false → EngineRuns d s
-stands_down d s k c is led = record { k = k; clean = c; follows = is; ends = λ bad. absurd (let z : true ≡ false = sym bad ∙ led in cc); all = λ ready. absurd (not_ready s led ready) }
+stands_down d s k c is led =
+    record { k = k; clean = c; follows = is; ends = λ bad. absurd (let z : true ≡ false = sym bad ∙ led in cc); all = λ ready. absurd (not_ready s led ready) }
 
 pub same_runs : (d : Durable) (s o : Soft) → o.role ≡ s.role → o.commit ≡ s.commit → o.ready_at ≡ s.ready_at → EngineRuns d s → EngineRuns d o
 same_runs d s o role count at r = record {
@@ -154,7 +155,8 @@ push_clean d x c is none =
       placed = y.placed;
       applied = y.applied;
       inside = omega arith;
-      prepared = c.prepared ∙ (sym (append-nil (pairs_in (entries_between d.log d.applied (length d.log)))) ∙ (ap (λ (ps : List Pair). pairs_in (entries_between d.log d.applied (length d.log)) ++ ps) (sym none)
+      prepared =
+          c.prepared ∙ (sym (append-nil (pairs_in (entries_between d.log d.applied (length d.log)))) ∙ (ap (λ (ps : List Pair). pairs_in (entries_between d.log d.applied (length d.log)) ++ ps) (sym none)
           ∙ (sym (pairs_join (entries_between d.log d.applied (length d.log)) (x ∷ [])) ∙ ap pairs_in (sym (between_push d.log x d.applied c.applied)))));
     }
 
@@ -168,15 +170,19 @@ pub written : (d : Durable) (p : Pair) (x : Entry) → Clean d (length d.log) �
 written d p x c is same one =
     let m : Durable = done d (action.Prepare p) in
     let e : Durable = done m (action.Append (x ∷ [])) in
-    let absent : has_opid d.log p.opid ≡ false = opid_beyond d.log p.opid c.placed (let y : p.opid.position ≡ suc (length d.log) = ap (λ o. o.position) same ∙ is in omega (arith, y)) in
+    let absent : has_opid d.log p.opid ≡ false =
+    opid_beyond d.log p.opid c.placed (let y : p.opid.position ≡ suc (length d.log) = ap (λ o. o.position) same ∙ is in omega (arith, y)) in
     let single : filter (λ (q : Pair). has_opid d.log q.opid) (p ∷ []) ≡ [] = rw absent refl in
-    let kept : kept_pairs m ≡ kept_pairs d = filter-append (λ (q : Pair). has_opid d.log q.opid) d.prepared (p ∷ []) ∙ (ap (λ (ps : List Pair). kept_pairs d ++ ps) single ∙ append-nil (kept_pairs d)) in
+    let kept : kept_pairs m ≡ kept_pairs d =
+    filter-append (λ (q : Pair). has_opid d.log q.opid) d.prepared (p ∷ [])
+    ∙ (ap (λ (ps : List Pair). kept_pairs d ++ ps) single ∙ append-nil (kept_pairs d)) in
     let here : HasPairs m = (let y = clean_has d (length d.log) c in (y.0, y.1, y.2, kept ∙ y.3)) in
     let after : Clean e (length (d.log ++ x ∷ [])) = record {
       placed = placed_push d.log x c.placed is;
       applied = (let y = c.applied in let z = length_push d.log x in omega (arith, y, z));
       inside = omega arith;
-      prepared = ap (λ (ps : List Pair). ps ++ p ∷ []) c.prepared ∙ (ap (λ (ps : List Pair). pairs_in (entries_between d.log d.applied (length d.log)) ++ ps) (sym one)
+      prepared =
+          ap (λ (ps : List Pair). ps ++ p ∷ []) c.prepared ∙ (ap (λ (ps : List Pair). pairs_in (entries_between d.log d.applied (length d.log)) ++ ps) (sym one)
           ∙ (sym (pairs_join (entries_between d.log d.applied (length d.log)) (x ∷ [])) ∙ ap pairs_in (sym (between_push d.log x d.applied c.applied))));
     } in
     record { along = (clean_has d (length d.log) c, (here, clean_has e (length (d.log ++ x ∷ [])) after)); clean = after }

@@ -68,7 +68,8 @@ module _ (ring : Layout) (h : History) (me : ℕ) (P : List Entry → Type 0) wh
   engine_logs : (n a : ℕ) (d : Durable) (l : List Entry) (pairs : List Pair) → Allowed (MayGrow h me P) d (engine_actions l pairs a n)
   engine_logs zero a d l pairs = tt
   engine_logs (suc n) a d l pairs =
-      allowed_join (MayGrow h me P) d (prepare_entry pairs (entry_at l (suc a))) (action.Commit (suc a) ∷ engine_actions l pairs (suc a) n) (prepare_logs d pairs (entry_at l (suc a)))
+      allowed_join (MayGrow h me P) d (prepare_entry pairs (entry_at l (suc a))) (action.Commit (suc a) ∷ engine_actions l pairs (suc a) n)
+      (prepare_logs d pairs (entry_at l (suc a)))
       (tt, engine_logs n (suc a) (done (all_done d (prepare_entry pairs (entry_at l (suc a)))) (action.Commit (suc a))) l pairs)
 
   pub follow_logs : (d : Durable) (c : ℕ) → Allowed (MayGrow h me P) d (follow_actions ring me d c)
@@ -82,5 +83,6 @@ module _ (ring : Layout) (h : History) (me : ℕ) (P : List Entry → Type 0) wh
       → Adds h me P d (advance ring me d s first says)
   unfolding advance
   advance_logs d s first says a =
-      allowed_join (MayGrow h me P) d first (follow_actions ring me (all_done d first) (commit_count ring me (all_done d first).term (all_done d first).log s)) a
+      allowed_join (MayGrow h me P) d first
+      (follow_actions ring me (all_done d first) (commit_count ring me (all_done d first).term (all_done d first).log s)) a
       (follow_logs (all_done d first) (commit_count ring me (all_done d first).term (all_done d first).log s))

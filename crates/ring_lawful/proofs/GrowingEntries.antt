@@ -69,7 +69,8 @@ module _ (ring : Layout) (h : History) (me : ℕ) (P : List Entry → Type 0) wh
       go (Some c) = tt
       go None =
           let x : Entry = own_entry ring me d payload.Rotate in
-          advance_logs ring h me P d s (action.Append (x ∷ []) ∷ []) (record { client = client; what = what.Rotated x.opid } ∷ []) (inr (plain d.log x refl), tt)
+          advance_logs ring h me P d s (action.Append (x ∷ []) ∷ []) (record { client = client; what = what.Rotated x.opid } ∷ [])
+          (inr (plain d.log x refl), tt)
 
   -- ---- what a member does with an Append
   taken_logs : (kept : ℕ) (d e : Durable) (rest : List Entry) → Foreign h me e.term → Allowed (MayGrow h me P) e (take_in ring me d kept rest)
@@ -109,7 +110,8 @@ module _ (ring : Layout) (h : History) (me : ℕ) (P : List Entry → Type 0) wh
           else elim o [ Follower ↦ match_append ring me d s [] [] sent | Candidate ↦ match_append ring me d (demoted s) [] (unknowns s) sent | Leader ↦ idle s ])
       go true y o = match_logs d (demoted s) (action.SetTerm sent.term ∷ []) (unknowns s) sent (tt, tt) f
       go false y Follower = match_logs d s [] [] sent tt (subst (Foreign h me) (let z : sent.term ≡ d.term = grind (arith, nat_tests, low, y) in z) f)
-      go false y Candidate = match_logs d (demoted s) [] (unknowns s) sent tt (subst (Foreign h me) (let z : sent.term ≡ d.term = grind (arith, nat_tests, low, y) in z) f)
+      go false y Candidate =
+          match_logs d (demoted s) [] (unknowns s) sent tt (subst (Foreign h me) (let z : sent.term ≡ d.term = grind (arith, nat_tests, low, y) in z) f)
       go false y Leader = tt
 
   pub append_logs : (sent : Append) (d : Durable) (s : Soft) → Foreign h me sent.term → Adds h me P d (on_append ring me d s sent)

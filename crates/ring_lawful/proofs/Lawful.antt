@@ -36,7 +36,8 @@ lawful_from ring id d s sound c p short x = record {
   candidate_short = short;
   leads_alone = x.alone;
   peers_are_others = λ role. (x.leads (ap is_leader role)).others;
-  peers_fit = λ role. all_from (PeerFits (length d.log)) s.peers (λ q in_q. peer_fits (length d.log) q (c.peers_near role q in_q) (all_of (λ (q : Peer). nat_le q.silent 3) s.peers q (x.leads (ap is_leader role)).silent in_q));
+  peers_fit = λ role. all_from (PeerFits (length d.log)) s.peers
+      (λ q in_q. peer_fits (length d.log) q (c.peers_near role q in_q) (all_of (λ (q : Peer). nat_le q.silent 3) s.peers q (x.leads (ap is_leader role)).silent in_q));
   ready_inside = λ role. (let l = x.leads (ap is_leader role) in (l.low, l.inside));
   unready_ends = λ role is. unready s (length d.log) (ap is_leader role) (x.leads (ap is_leader role)).ends is;
   all_prepared = p.all_prepared;

@@ -26,7 +26,8 @@ use Rattle.ring_model.specs.Replication.{heard_among, heard_from, quieter}
 use Rattle.ring_model.specs.Elections.{first_peers, has_won, lead, lead_or_ask, leading}
 use Rattle.ring_model.specs.Steps.{advance, commit_count, demoted, follow_actions, is_settled, may_commit, own_entry, smaller_of, stepped, waiting}
 use Rattle.ring_model.proofs.OwnEntry.{length_push}
-use Rattle.ring_model.proofs.Lists.{both_true, filter_of, filter_true, none_contained}
+use Rattle.ring_types.proofs.Booleans.{both_true}
+use Rattle.ring_model.proofs.Lists.{filter_of, filter_true, none_contained}
 use Rattle.ring_model.proofs.HeldElections.{done_join}
 use Rattle.ring_lawful.proofs.EngineAppend.{follow_log}
 use Rattle.ring_lawful.proofs.EngineSteps.{greatest_bounds}
@@ -93,7 +94,9 @@ rises_push (x ∷ ps) p r low =
 pub increasing : (ps : List Pending) → Rises ps → IsStrictlyIncreasing (map (λ (p : Pending). p.opid.position) ps)
 increasing [] r k lt = absurd (omega arith)
 increasing (v ∷ []) r k lt = absurd (omega arith)
-increasing (v ∷ w ∷ ps) r zero lt = let z = both_true (nat_lt v.opid.position w.opid.position) (list_all (λ (q : Pending). nat_lt v.opid.position q.opid.position) ps) r.0 in grind (arith, nat_tests, z.0)
+increasing (v ∷ w ∷ ps) r zero lt =
+    let z = both_true (nat_lt v.opid.position w.opid.position) (list_all (λ (q : Pending). nat_lt v.opid.position q.opid.position) ps) r.0 in
+    grind (arith, nat_tests, z.0)
 increasing (v ∷ w ∷ ps) r (suc k) lt = let z : suc k + 1 ≡ suc (k + 1) = omega arith in let y = increasing (w ∷ ps) r.1 k (omega (arith, lt)) in rw z y
 
 unsettled : (c position : ℕ) → not (nat_le position c) ≡ true → c < position
@@ -128,7 +131,8 @@ advance_soft ring me d s first says x inside =
     let e : Durable = all_done d first in
     let c = commit_count ring me e.term e.log s in
     let b = greatest_bounds (may_commit ring me e.term e.log s.peers) s.commit (length e.log) (length e.log) inside (omega arith) in
-    let l : (all_done d (first ++ follow_actions ring me e c)).log ≡ e.log = ap (λ (w : Durable). w.log) (done_join d first (follow_actions ring me e c)) ∙ follow_log ring me e c in
+    let l : (all_done d (first ++ follow_actions ring me e c)).log ≡ e.log =
+    ap (λ (w : Durable). w.log) (done_join d first (follow_actions ring me e c)) ∙ follow_log ring me e c in
     subst (λ (w : List Entry). SoftFits ring me w (record s { commit = c; pending = waiting c s.pending })) (sym l) (advance_fits ring me e.log s c x b.0)
 
 -- ---- peers
@@ -163,7 +167,8 @@ heard_nodes (p ∷ peers) from ok position = go (p.node == from) refl (heard_nod
   where
     go : (b : Bool) → (p.node == from) ≡ b → map (λ (p : Peer). p.node) (heard_among peers from ok position) ≡ map (λ (p : Peer). p.node) peers
         → map (λ (p : Peer). p.node) (heard_among (p ∷ peers) from ok position) ≡ map (λ (p : Peer). p.node) (p ∷ peers)
-    go true is rest = rw is (ap (λ (n : ℕ). n ∷ map (λ (p : Peer). p.node) (heard_among peers from ok position)) (heard_same p ok position).0 ∙ ap (λ (ns : List ℕ). p.node ∷ ns) rest)
+    go true is rest =
+        rw is (ap (λ (n : ℕ). n ∷ map (λ (p : Peer). p.node) (heard_among peers from ok position)) (heard_same p ok position).0 ∙ ap (λ (ns : List ℕ). p.node ∷ ns) rest)
     go false is rest = rw is (ap (λ (ns : List ℕ). p.node ∷ ns) rest)
 
 pub heard_silent : (peers : List Peer) (from : ℕ) (ok : Bool) (position : ℕ) → list_all (λ (p : Peer). nat_le p.silent 3) peers ≡ true
@@ -176,7 +181,8 @@ heard_silent (p ∷ peers) from ok position t =
     go : (b : Bool) → (p.node == from) ≡ b → nat_le p.silent 3 ≡ true
         → list_all (λ (p : Peer). nat_le p.silent 3) (heard_among peers from ok position) ≡ true
         → list_all (λ (p : Peer). nat_le p.silent 3) (heard_among (p ∷ peers) from ok position) ≡ true
-    go true is here rest = let y = (heard_same p ok position).1 in let w : nat_le (heard_from p ok position).silent 3 ≡ true = ap (λ (n : ℕ). nat_le n 3) y in rw (is, w) rest
+    go true is here rest =
+        let y = (heard_same p ok position).1 in let w : nat_le (heard_from p ok position).silent 3 ≡ true = ap (λ (n : ℕ). nat_le n 3) y in rw (is, w) rest
     go false is here rest = rw (is, here) rest
 
 quieter_low : (n : ℕ) → nat_le (smaller_of (suc n) 3) 3 ≡ true
@@ -205,9 +211,11 @@ ask_soft ring me d s first says grants asks may none off m inside = go (has_won 
     go true =
         let e : Durable = all_done d first in
         let x : Entry = own_entry ring me (all_done d first) payload.NoOp in
-        let l : (all_done d (first ++ (action.Append (x ∷ []) ∷ []))).log ≡ e.log ++ x ∷ [] = ap (λ (w : Durable). w.log) (done_join d first (action.Append (x ∷ []) ∷ [])) in
+        let l : (all_done d (first ++ (action.Append (x ∷ []) ∷ []))).log ≡ e.log ++ x ∷ [] =
+        ap (λ (w : Durable). w.log) (done_join d first (action.Append (x ∷ []) ∷ [])) in
         let n : length (all_done d (first ++ (action.Append (x ∷ []) ∷ []))).log ≡ suc (length e.log) = ap length l ∙ length_push e.log x in
-        advance_soft ring me d (leading ring me (suc (length (all_done d first).log)) s grants) (first ++ (action.Append (own_entry ring me (all_done d first) payload.NoOp ∷ []) ∷ [])) says
+        advance_soft ring me d (leading ring me (suc (length (all_done d first).log)) s grants)
+        (first ++ (action.Append (own_entry ring me (all_done d first) payload.NoOp ∷ []) ∷ [])) says
         (record {
           learner = λ bad. absurd (let z : true ≡ false = sym may ∙ bad in cc);
           alone = λ bad. absurd cc;
@@ -224,4 +232,6 @@ ask_soft ring me d s first says grants asks may none off m inside = go (has_won 
           transfer = subst (TransferFits ring me) (sym off) tt;
           mock = m;
         }) (omega (arith, inside, n))
-    go false = stands ring me (all_done d first).log (record s { role = Candidate; grants = grants }) refl (λ bad. absurd (let z : true ≡ false = sym may ∙ bad in cc)) none off m
+    go false =
+        stands ring me (all_done d first).log (record s { role = Candidate; grants = grants }) refl
+        (λ bad. absurd (let z : true ≡ false = sym may ∙ bad in cc)) none off m

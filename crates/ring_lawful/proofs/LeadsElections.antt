@@ -46,7 +46,9 @@ reply_soft ring me from reply d s x inside = go s.role refl
   where
     count : s.role ≡ Candidate → (b : Bool)
         → SoftStep ring me d (if b then lead_or_ask ring me d s [] [] (s.grants ++ record { voter = from; votes = reply.votes } ∷ []) [] else idle s)
-    count role true = let a = x.alone (ap is_leader role) in ask_soft ring me d s [] [] (s.grants ++ record { voter = from; votes = reply.votes } ∷ []) [] (voter_is ring me d.log s x role) a.0 a.1 x.mock inside
+    count role true =
+        let a = x.alone (ap is_leader role) in
+        ask_soft ring me d s [] [] (s.grants ++ record { voter = from; votes = reply.votes } ∷ []) [] (voter_is ring me d.log s x role) a.0 a.1 x.mock inside
     count role false = x
 
     hears : s.role ≡ Candidate → (b : Bool)
@@ -69,7 +71,8 @@ answer_soft ring me d o first says from asked x = go (vote_in d.votes asked.term
     kept false = x
 
     fresh : (a c : Bool) → SoftStep ring me d (if a then (if c then granted_now me d o (cast_actions ring d o first from asked.term) says from asked else refused_now me o first says from asked.term) else refused_now me o first says from asked.term)
-    fresh true true = subst (λ (w : Durable). SoftFits ring me w.log o) (sym (done_join d first (action.Vote (new_vote ring asked.term from) (floor_of d o) ∷ []))) x
+    fresh true true =
+        subst (λ (w : Durable). SoftFits ring me w.log o) (sym (done_join d first (action.Vote (new_vote ring asked.term from) (floor_of d o) ∷ []))) x
     fresh true false = x
     fresh false c = x
 

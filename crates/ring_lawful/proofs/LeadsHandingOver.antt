@@ -27,7 +27,7 @@ use Rattle.ring_model.specs.Elections.{elect}
 use Rattle.ring_model.specs.Steps.{idle, message, stepped}
 use Rattle.ring_model.specs.Transfers.{ask_transfer, begin_mock, begin_round, cancel, count_answer, is_off, is_old_round, mock_hears, on_mock_reply, on_mock_request, on_mock_result, on_mock_start, on_timeout, own_failed, own_passed, passes, result_heard, round_limit, transfer_hears, transfer_refusal, with_answer}
 use Rattle.ring_model.specs.Writes.{refused}
-use Rattle.ring_model.proofs.Lists.{both_true}
+use Rattle.ring_types.proofs.Booleans.{both_true}
 use Rattle.ring_lawful.proofs.Leads.{SoftFits, SoftStep}
 use Rattle.ring_lawful.proofs.LeadsElections.{elect_soft}
 
@@ -83,7 +83,8 @@ transfer_soft ring me client target d s x = go (transfer_refusal ring me s targe
     go (Some c) is = x
     go None is =
         let m = may_move ring me s target is in
-        with_transfer ring me d.log s (transfer.Mock target (suc s.rounds) client) (suc s.rounds) x (m.other, m.voter) (λ bad. absurd (let l = m.leads in let z : true ≡ false = sym l ∙ bad in cc))
+        with_transfer ring me d.log s (transfer.Mock target (suc s.rounds) client) (suc s.rounds) x (m.other, m.voter)
+        (λ bad. absurd (let l = m.leads in let z : true ≡ false = sym l ∙ bad in cc))
 
 pub cancel_soft : (ring : Layout) (me client : ℕ) (d : Durable) (s : Soft) → SoftFits ring me d.log s → SoftStep ring me d (cancel s client)
 unfolding cancel
@@ -150,7 +151,9 @@ transfer_heard ring me d s sent (transfer.Handing target client) is x fits = x
 transfer_heard ring me d s sent (transfer.Mock target round client) is x fits = go (sent.term == d.term && sent.round == round) sent.ok
   where
     go : (b ok : Bool) → SoftStep ring me d (if b then result_heard me d s ok target client else idle s)
-    go true true = with_transfer ring me d.log s (transfer.Handing target client) s.rounds x fits (λ led. absurd (let z : transfer.Mock target round client ≡ transfer.Off = sym is ∙ (x.alone led).1 in cc))
+    go true true =
+        with_transfer ring me d.log s (transfer.Handing target client) s.rounds x fits
+        (λ led. absurd (let z : transfer.Mock target round client ≡ transfer.Off = sym is ∙ (x.alone led).1 in cc))
     go true false = with_transfer ring me d.log s transfer.Off s.rounds x tt (λ led. refl)
     go false ok = x
 

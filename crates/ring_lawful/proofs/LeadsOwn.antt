@@ -21,14 +21,15 @@ use Rattle.ring_model.specs.Steps.{demoted, idle, own_entry, stepped, unknowns}
 use Rattle.ring_model.specs.Transfers.{after_ok, on_answer, with_more}
 use Rattle.ring_model.specs.Writes.{awaits, refused, rotate, rotate_refusal, rotate_step, write, write_entry, write_entry_step, write_refusal, write_txn}
 use Rattle.ring_model.proofs.OwnEntry.{entry_more, get_end, length_push}
-use Rattle.ring_model.proofs.Lists.{both_true}
+use Rattle.ring_types.proofs.Booleans.{both_true}
 use Rattle.ring_lawful.proofs.EngineOwn.{rotate_is_ready, write_is_ready}
 use Rattle.ring_lawful.proofs.Leads.{LeaderFits, SoftFits, SoftStep, advance_soft, demoted_fits, heard_nodes, heard_silent, quieter_nodes, quieter_silent, rises_push}
 
 -- ---- answers
 with_peers : (ring : Layout) (me : ℕ) (log : List Entry) (s : Soft) (peers : List Peer) → SoftFits ring me log s
     → (LeaderFits ring me log s → LeaderFits ring me log (record s { peers = peers })) → SoftFits ring me log (record s { peers = peers })
-with_peers ring me log s peers x fits = record { learner = x.learner; alone = x.alone; leads = λ is. fits (x.leads is); rises = x.rises; transfer = x.transfer; mock = x.mock }
+with_peers ring me log s peers x fits =
+    record { learner = x.learner; alone = x.alone; leads = λ is. fits (x.leads is); rises = x.rises; transfer = x.transfer; mock = x.mock }
 
 hears_soft : (ring : Layout) (me from : ℕ) (answer : AppendReply) (d : Durable) (s : Soft) → SoftFits ring me d.log s → s.commit ≤ length d.log
     → SoftStep ring me d (leader_hears ring me d s from answer)
@@ -121,7 +122,8 @@ write_soft ring me client changes d s x inside = go (write_refusal ring me d s c
         let f = pushed ring me d.log s e ready x in
         let new : Pending = record { client = client; gtid = (write_txn ring me d changes).gtid; opid = e.opid } in
         let n = length_push d.log e in
-        advance_soft ring me d (awaits s client e (write_txn ring me d changes).gtid) (action.Prepare (record { opid = e.opid; txn = write_txn ring me d changes }) ∷ action.Append (e ∷ []) ∷ []) []
+        advance_soft ring me d (awaits s client e (write_txn ring me d changes).gtid)
+        (action.Prepare (record { opid = e.opid; txn = write_txn ring me d changes }) ∷ action.Append (e ∷ []) ∷ []) []
         (record {
           learner = f.learner;
           alone = λ bad. absurd (let z : true ≡ false = sym leads ∙ bad in cc);
@@ -137,7 +139,8 @@ write_soft ring me client changes d s x inside = go (write_refusal ring me d s c
               | inr here ↦ subst (λ (q : Pending). IsPendingIn (d.log ++ e ∷ []) s.commit q) here (omega (arith, inside), (e, get_end d.log e, refl, refl))
             ];
           });
-          rises = rises_push s.pending new f.rises (λ p in_p. let w = (x.leads leads).waits p in_p in let y = at_within d.log p.opid.position w.1.0 w.1.1 in omega (arith, y));
+          rises = rises_push s.pending new f.rises
+              (λ p in_p. let w = (x.leads leads).waits p in_p in let y = at_within d.log p.opid.position w.1.0 w.1.1 in omega (arith, y));
           transfer = f.transfer;
           mock = f.mock;
         }) (omega (arith, inside, n))

@@ -27,6 +27,8 @@ pub mod LeadsRules
 pub mod Lawful
 -- ---- its order, and what is possible
 pub mod Chains
+pub mod Steady
+pub mod SteadyTaking
 pub mod SteadyAppend
 pub mod SteadyPeers
 pub mod SteadyElections

@@ -43,7 +43,9 @@ refusal_alike schema T S c is = go (place_in schema (table_name c)) is
     go : (o : Option ℕ) → key_in T (change_key c) o ≡ key_in S (change_key c) o
         → option_map_or (λ place. refusal_in schema T place c) o (Some NoTable) ≡ option_map_or (λ place. refusal_in schema S place c) o (Some NoTable)
     go None x = refl
-    go (Some p) x = ap (λ (r : Option RowRefusal). if option_map_or (λ (t : Table). fits_table t c) (slice_get schema.tables p) false then r else Some BadRow) (refused_alike (rows_at T p) (rows_at S p) c x)
+    go (Some p) x =
+        ap (λ (r : Option RowRefusal). if option_map_or (λ (t : Table). fits_table t c) (slice_get schema.tables p) false then r else Some BadRow)
+        (refused_alike (rows_at T p) (rows_at S p) c x)
 
 set_alike : (T S : Tables) (c : Change) (key : Value) (o q : Option ℕ) → length T ≡ length S → key_in T key q ≡ key_in S key q
     → key_in (set_in T c o) key q ≡ key_in (set_in S c o) key q
@@ -66,10 +68,13 @@ set_alike T S c key (Some p) (Some r) same is = go (p == r) refl
         ap (λ (r : Rows). has_key r key) (set_past T p (rows_after (rows_at T p) c) x ∙ sym (set_past S p (rows_after (rows_at S p) c) z))
 
     go : (b : Bool) → (p == r) ≡ b → key_in (set_in T c (Some p)) key (Some r) ≡ key_in (set_in S c (Some p)) key (Some r)
-    go true x = let z : p ≡ r = grind (arith, nat_tests, x) in subst (λ (n : ℕ). key_in (set_in T c (Some p)) key (Some n) ≡ key_in (set_in S c (Some p)) key (Some n)) z
+    go true x =
+        let z : p ≡ r = grind (arith, nat_tests, x) in
+        subst (λ (n : ℕ). key_in (set_in T c (Some p)) key (Some n) ≡ key_in (set_in S c (Some p)) key (Some n)) z
         (within (nat_lt p (length T)) refl (subst (λ (n : ℕ). has_key (rows_at T n) key ≡ has_key (rows_at S n) key) (sym z) is))
     go false x =
-        ap (λ (w : Rows). has_key w key) (set_there T p r (rows_after (rows_at T p) c) x) ∙ (is ∙ ap (λ (w : Rows). has_key w key) (sym (set_there S p r (rows_after (rows_at S p) c) x)))
+        ap (λ (w : Rows). has_key w key) (set_there T p r (rows_after (rows_at T p) c) x)
+        ∙ (is ∙ ap (λ (w : Rows). has_key w key) (sym (set_there S p r (rows_after (rows_at S p) c) x)))
 
 changed_alike : (schema : Schema) (T S : Tables) (c x : Change) → length T ≡ length S → holds_key schema T x ≡ holds_key schema S x
     → holds_key schema (changed schema T c) x ≡ holds_key schema (changed schema S c) x
@@ -98,7 +103,9 @@ pub check_alike : (schema : Schema) (T S : Tables) (changes : List Change) → l
     → check schema T changes ≡ check schema S changes
 check_alike schema T S [] same x = refl
 check_alike schema T S (c ∷ changes) same x =
-    let more = check_alike schema (changed schema T c) (changed schema S c) changes (changed_length schema T c ∙ (same ∙ sym (changed_length schema S c))) (all_alike schema T S c changes same x.1) in
+    let more =
+    check_alike schema (changed schema T c) (changed schema S c) changes (changed_length schema T c ∙ (same ∙ sym (changed_length schema S c)))
+    (all_alike schema T S c changes same x.1) in
     go (refusal_of schema T c) (refusal_of schema S c) (refusal_alike schema T S c x.0) more
   where
     go : (a b : Option RowRefusal) → a ≡ b → check schema (changed schema T c) changes ≡ check schema (changed schema S c) changes
@@ -130,16 +137,20 @@ set_apart : (T : Tables) (c : Change) (key : Value) (p r : ℕ) → same_value (
 set_apart T c key p r other = go (p == r) refl
   where
     within : (b : Bool) → nat_lt p (length T) ≡ b → key_in (set_in T c (Some p)) key (Some p) ≡ key_in T key (Some p)
-    within true x = ap (λ (w : Rows). has_key w key) (set_here T p (rows_after (rows_at T p) c) (grind (arith, nat_tests, x))) ∙ after_there (rows_at T p) c key other
+    within true x =
+        ap (λ (w : Rows). has_key w key) (set_here T p (rows_after (rows_at T p) c) (grind (arith, nat_tests, x))) ∙ after_there (rows_at T p) c key other
     within false x = ap (λ (w : Rows). has_key w key) (set_past T p (rows_after (rows_at T p) c) x ∙ sym (none_past T p x))
       where
         none_past : (T : Tables) (p : ℕ) → nat_lt p (length T) ≡ false → rows_at T p ≡ []
         none_past [] p past = refl
-        none_past (t ∷ T) zero past = absurd (let z : nat_lt zero (suc (length T)) ≡ true = grind (arith, nat_tests) in let q : true ≡ false = sym z ∙ past in cc)
+        none_past (t ∷ T) zero past =
+            absurd (let z : nat_lt zero (suc (length T)) ≡ true = grind (arith, nat_tests) in let q : true ≡ false = sym z ∙ past in cc)
         none_past (t ∷ T) (suc p) past = none_past T p (grind (arith, nat_tests, past))
 
     go : (b : Bool) → (p == r) ≡ b → key_in (set_in T c (Some p)) key (Some r) ≡ key_in T key (Some r)
-    go true x = let z : p ≡ r = grind (arith, nat_tests, x) in subst (λ (n : ℕ). key_in (set_in T c (Some p)) key (Some n) ≡ key_in T key (Some n)) z (within (nat_lt p (length T)) refl)
+    go true x =
+        let z : p ≡ r = grind (arith, nat_tests, x) in
+        subst (λ (n : ℕ). key_in (set_in T c (Some p)) key (Some n) ≡ key_in T key (Some n)) z (within (nat_lt p (length T)) refl)
     go false x = ap (λ (w : Rows). has_key w key) (set_there T p r (rows_after (rows_at T p) c) x)
 
 -- a change of another key leaves what the tables have of this one

@@ -156,7 +156,9 @@ prepared_in (x ∷ xs) e p c is = go x.payload refl (cons_cases x xs e c) (λ d.
     go payload.NoOp y (inr there) rest = rw y (rest there)
     go payload.Rotate y (inl here) rest = absurd (let z : None ≡ Some p = (let w : pair_of x ≡ None = rw y refl in sym w) ∙ (ap pair_of here ∙ is) in cc)
     go payload.Rotate y (inr there) rest = rw y (rest there)
-    go (payload.Txn t) y (inl here) rest = let same : same_opid x.opid e.opid ≡ true = (let z : x.opid ≡ e.opid = ap (λ (w : Entry). w.opid) here in grind (arith, nat_tests, z)) in rw (y, same) refl
+    go (payload.Txn t) y (inl here) rest =
+        let same : same_opid x.opid e.opid ≡ true = (let z : x.opid ≡ e.opid = ap (λ (w : Entry). w.opid) here in grind (arith, nat_tests, z)) in
+        rw (y, same) refl
     go (payload.Txn t) y (inr there) rest = go_on (same_opid x.opid e.opid) refl
       where
         go_on : (b : Bool) → same_opid x.opid e.opid ≡ b → is_prepared (pairs_in (x ∷ xs)) e.opid ≡ true
@@ -218,14 +220,16 @@ length_drop (suc a) [] = omega arith
 length_drop (suc a) (x ∷ xs) = let y = length_drop a xs in omega (arith, y)
 
 pub between_more : (log es : List Entry) (a k : ℕ) → a ≤ length log → k ≤ length log → entries_between (log ++ es) a k ≡ entries_between log a k
-between_more log es a k in_a in_k = ap (take (k - a)) (drop-append-le a log es in_a) ∙ take-append-le (k - a) (drop a log) es (let y = length_drop a log in omega (arith, y, in_k))
+between_more log es a k in_a in_k =
+    ap (take (k - a)) (drop-append-le a log es in_a) ∙ take-append-le (k - a) (drop a log) es (let y = length_drop a log in omega (arith, y, in_k))
 
 pub between_all : (log : List Entry) (a : ℕ) → entries_between log a (length log) ≡ drop a log
 between_all log a = take_all (length log - a) (drop a log) (let y = length_drop a log in omega (arith, y))
 
 pub between_push : (log : List Entry) (x : Entry) (a : ℕ) → a ≤ length log
     → entries_between (log ++ x ∷ []) a (length (log ++ x ∷ [])) ≡ entries_between log a (length log) ++ x ∷ []
-between_push log x a in_a = between_all (log ++ x ∷ []) a ∙ (drop-append-le a log (x ∷ []) in_a ∙ ap (λ (ys : List Entry). ys ++ x ∷ []) (sym (between_all log a)))
+between_push log x a in_a =
+    between_all (log ++ x ∷ []) a ∙ (drop-append-le a log (x ∷ []) in_a ∙ ap (λ (ys : List Entry). ys ++ x ∷ []) (sym (between_all log a)))
 
 pub placed_push : (log : List Entry) (x : Entry) → Placed log → x.opid.position ≡ suc (length log) → Placed (log ++ x ∷ [])
 placed_push log x placed is zero e at = absurd cc
@@ -250,7 +254,8 @@ filter_up_to log g a m k low placed on off = elim (cases_lt m k) [
     omega arith,
     omega (arith, lt),
     ap (λ (xs : List Entry). filter (λ (p : Pair). g p.opid) (pairs_in xs)) (between_split log a m k low (omega arith))
-        ∙ filter_first g (entries_between log a m) (entries_between log m k) (λ e c. let y = in_between log a m e placed c in on e y.0 y.2) (λ e c. let y = in_between log m k e placed c in off e y.1),
+        ∙ filter_first g (entries_between log a m) (entries_between log m k) (λ e c. let y = in_between log a m e placed c in on e y.0 y.2)
+        (λ e c. let y = in_between log m k e placed c in off e y.1),
   )
   | inr ge ↦ (k, ge, omega arith, filter_on g (entries_between log a k) (λ e c. let y = in_between log a k e placed c in on e y.0 (omega (arith, y.2, ge))))
 ]

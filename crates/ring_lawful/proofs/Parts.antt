@@ -28,7 +28,7 @@ use Rattle.ring_model.specs.Nodes.{ArePairsAbove, IsLawful, IsPendingIn, IsSound
 use Rattle.ring_model.specs.Replication.{opids_of}
 use Rattle.ring_model.specs.Steps.{idle}
 use Rattle.ring_model.specs.WellFormed.{BodyIsNear, opid_fits, opids_follow}
-use Rattle.ring_model.proofs.Lists.{both_true}
+use Rattle.ring_types.proofs.Booleans.{both_true}
 use Rattle.ring_lawful.specs.EachStep.{IsGood}
 use Rattle.ring_lawful.proofs.Keeps.{KeepsOrder}
 use Rattle.ring_lawful.proofs.Chains.{Chain, ordered_from}
@@ -42,7 +42,7 @@ use Rattle.ring_lawful.proofs.SizedElections.{elect_keeps}
 use Rattle.ring_lawful.proofs.SizedOwn.{rotate_keeps, write_keeps}
 use Rattle.ring_lawful.proofs.SizedAppends.{beat_keeps}
 use Rattle.ring_lawful.proofs.Sound.{body_keeps, cancel_keeps, transfer_keeps}
-use Rattle.ring_lawful.proofs.SteadyAppend.{Counted, Near}
+use Rattle.ring_lawful.proofs.Steady.{Counted, Near}
 use Rattle.ring_lawful.proofs.SteadyRules.{Goes, GoesIn}
 
 -- ---- lists
@@ -59,7 +59,8 @@ rising (v ∷ []) h = (refl, tt)
 rising (v ∷ w ∷ vs) h =
     let rest = rising (w ∷ vs)
     (λ k within. let e : suc k + 1 ≡ suc (k + 1) = omega arith in
-    subst (λ (n : ℕ). slice_index (w.term ∷ map (λ (v : Vote). v.term) vs) k < slice_index (v.term ∷ w.term ∷ map (λ (v : Vote). v.term) vs) n) e (h (suc k) (omega (arith, within)))) in
+    subst (λ (n : ℕ). slice_index (w.term ∷ map (λ (v : Vote). v.term) vs) k < slice_index (v.term ∷ w.term ∷ map (λ (v : Vote). v.term) vs) n) e
+    (h (suc k) (omega (arith, within)))) in
     let lt : v.term < w.term = h 0 (omega arith) in
     let here : nat_lt v.term w.term ≡ true = grind (arith, nat_tests, lt) in
     (rw here (all_weaker (λ (u : Vote). nat_lt w.term u.term) (λ (u : Vote). nat_lt v.term u.term) vs (λ u is. grind (arith, nat_tests, is, lt)) rest.0), rest)
@@ -112,7 +113,10 @@ near_from len (p ∷ peers) all = (let a = all zero p (omega arith) in (a.0, a.1
 
 silent_from : (len : ℕ) (peers : List Peer) → All (PeerFits len) peers → list_all (λ (p : Peer). nat_le p.silent 3) peers ≡ true
 silent_from len [] all = refl
-silent_from len (p ∷ peers) all = let a = (all zero p (omega arith)).2 in let here : nat_le p.silent 3 ≡ true = grind (arith, nat_tests, a) in rw here (silent_from len peers (λ k d lt. all (suc k) d (omega (arith, lt))))
+silent_from len (p ∷ peers) all =
+    let a = (all zero p (omega arith)).2 in
+    let here : nat_le p.silent 3 ≡ true = grind (arith, nat_tests, a) in
+    rw here (silent_from len peers (λ k d lt. all (suc k) d (omega (arith, lt))))
 
 leads_is : (s : Soft) → is_leader s.role ≡ true → s.role ≡ Leader
 leads_is s is = go s.role refl
@@ -130,7 +134,8 @@ ready_cases s n led ends = go (nat_le s.ready_at s.commit) refl
     go false is = inr (ends (rw (led, is) refl))
 
 pub counted_from : (ring : Layout) (me : ℕ) (d : Durable) (s : Soft) → IsLawful ring me d s → Counted d s
-counted_from ring me d s x = record { above = x.commit_above; inside = x.commit_inside; near = λ is. near_from (length d.log) s.peers (x.peers_fit (leads_is s is)) }
+counted_from ring me d s x =
+    record { above = x.commit_above; inside = x.commit_inside; near = λ is. near_from (length d.log) s.peers (x.peers_fit (leads_is s is)) }
 
 pub soft_from : (ring : Layout) (me : ℕ) (d : Durable) (s : Soft) → IsLawful ring me d s → SoftFits ring me d.log s
 soft_from ring me d s x = record {

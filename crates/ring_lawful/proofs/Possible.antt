@@ -56,7 +56,8 @@ possible_one ring d (action.DropPairs opids) x y m c = tt
 pub possible_all : (ring : Layout) (d : Durable) (actions : List Action) → Along (Good ring) d actions → Allowed (May ring) d actions → Allowed Can d actions
     → ArePossible ring.schema d actions
 possible_all ring d [] g m c = tt
-possible_all ring d (a ∷ actions) g m c = (possible_one ring d a g.0 (along_here (Good ring) (done d a) actions g.1) m.0 c.0, possible_all ring (done d a) actions g.1 m.1 c.1)
+possible_all ring d (a ∷ actions) g m c =
+    (possible_one ring d a g.0 (along_here (Good ring) (done d a) actions g.1) m.0 c.0, possible_all ring (done d a) actions g.1 m.1 c.1)
 
 tail_one : (d : Durable) (a : Action) → IsTail a → Can d a
 tail_one d (action.SetTerm term) t = tt

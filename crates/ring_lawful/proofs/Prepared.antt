@@ -92,7 +92,8 @@ dropped_engine ring id d opids is x = record {
 
 -- ---- each node by itself
 empty_has : (d : Durable) → IsEmpty d → HasPairs d
-empty_has d x = (d.applied, omega arith, omega (arith, x.0), ap (filter (λ (p : Pair). has_opid d.log p.opid)) x.1 ∙ sym (ap pairs_in (none_between d.log d.applied d.applied (omega arith))))
+empty_has d x =
+    (d.applied, omega arith, omega (arith, x.0), ap (filter (λ (p : Pair). has_opid d.log p.opid)) x.1 ∙ sym (ap pairs_in (none_between d.log d.applied d.applied (omega arith))))
 
 pub pairs_of : (ring : Layout) (id : ℕ) (d : Durable) → Engine ring id d → KeepsPairs ring id d
 pairs_of ring id d e = record { pairs_in_order = go (runs_engine ring id) refl; tailer = e.tailer }

@@ -64,7 +64,8 @@ recovery_lawful ring me d x =
     let r : Running ring me (recover d) (fresh_soft d) = λ runs. stands_down (recover d) (fresh_soft d) c.0 c.1 refl refl in
     lawful_from ring me (recover d) (fresh_soft d) (repaired ring me d (kept_pairs d) (pairs_of ring me (recover d) y) x)
     (record { commit_above = omega arith; commit_inside = x.applied_inside; peers_near = λ bad. absurd (let z : Follower ≡ Leader = bad in cc) })
-    (runs_of ring me (recover d) (fresh_soft d) y r) (λ bad. absurd (let z : Follower ≡ Candidate = bad in cc)) (stands ring me d.log (fresh_soft d) refl (λ v. refl) refl refl tt)
+    (runs_of ring me (recover d) (fresh_soft d) y r) (λ bad. absurd (let z : Follower ≡ Candidate = bad in cc))
+    (stands ring me d.log (fresh_soft d) refl (λ v. refl) refl refl tt)
 
 -- what the restart does comes to recovery
 same_filter : (f g : Pair → Bool) (ps : List Pair) → ((p : Pair) → Contains ps p → f p ≡ g p) → filter f ps ≡ filter g ps
@@ -87,7 +88,8 @@ stray_is d p c = go (has_opid d.log p.opid) refl
   where
     go : (b : Bool) → has_opid d.log p.opid ≡ b → not (list_any (same_opid p.opid) (stray_opids d)) ≡ b
     go true is = ap not (stray_not d.log p.opid d.prepared is)
-    go false is = ap not (any_true (same_opid p.opid) (stray_opids d) p.opid (map_keeps (λ (q : Pair). q.opid) (filter (λ (q : Pair). not (has_opid d.log q.opid)) d.prepared) p
+    go false is =
+        ap not (any_true (same_opid p.opid) (stray_opids d) p.opid (map_keeps (λ (q : Pair). q.opid) (filter (λ (q : Pair). not (has_opid d.log q.opid)) d.prepared) p
         (filter_keeps (λ (q : Pair). not (has_opid d.log q.opid)) d.prepared p c (ap not is))) (same_self p.opid))
 
 restart_recovers : (d : Durable) → all_done d (restart_actions d) ≡ recover d
@@ -98,9 +100,12 @@ restart_recovers d = go (stray_opids d) refl
 
     go : (o : List Opid) → stray_opids d ≡ o → all_done d (elim o [ [] ↦ [] | o ∷ opids ↦ action.DropPairs (o ∷ opids) ∷ [] ]) ≡ recover d
     go [] is =
-        let z : filter (λ (p : Pair). not (list_any (same_opid p.opid) [])) d.prepared ≡ kept_pairs d = subst (λ (os : List Opid). filter (λ (p : Pair). not (list_any (same_opid p.opid) os)) d.prepared ≡ kept_pairs d) is same in
+        let z : filter (λ (p : Pair). not (list_any (same_opid p.opid) [])) d.prepared ≡ kept_pairs d =
+        subst (λ (os : List Opid). filter (λ (p : Pair). not (list_any (same_opid p.opid) os)) d.prepared ≡ kept_pairs d) is same in
         ap (λ (ps : List Pair). record d { prepared = ps }) (sym (all_pass d.prepared) ∙ z)
-    go (o ∷ opids) is = ap (λ (ps : List Pair). record d { prepared = ps }) (subst (λ (os : List Opid). filter (λ (p : Pair). not (list_any (same_opid p.opid) os)) d.prepared ≡ kept_pairs d) is same)
+    go (o ∷ opids) is =
+        ap (λ (ps : List Pair). record d { prepared = ps })
+        (subst (λ (os : List Opid). filter (λ (p : Pair). not (list_any (same_opid p.opid) os)) d.prepared ≡ kept_pairs d) is same)
 
 pub every_recovery_is_lawful : EveryRecoveryIsLawful
 every_recovery_is_lawful ring me d x = (recovery_lawful ring me d x, restart_possible ring d, λ n. partly_sound ring me d n x, restart_recovers d)

@@ -31,7 +31,8 @@ same_turned a b is = go (same_value b a) refl
   where
     go : (t : Bool) → same_value b a ≡ t → same_value b a ≡ false
     go false x = x
-    go true x = absurd (let z : b ≡ a = same_true b a x in let y : same_value a b ≡ true = subst (λ (v : Value). same_value a v ≡ true) (sym z) (same_self a) in let q : true ≡ false = sym y ∙ is in cc)
+    go true x =
+        absurd (let z : b ≡ a = same_true b a x in let y : same_value a b ≡ true = subst (λ (v : Value). same_value a v ≡ true) (sym z) (same_self a) in let q : true ≡ false = sym y ∙ is in cc)
 
 -- ---- the keys of a table after a change
 key_gone : (rs : Rows) (key : Value) → has_key (without_key rs key) key ≡ false
@@ -67,7 +68,8 @@ key_placed (r ∷ rs) row key = go (comes_before (key_of row) (key_of r)) refl (
     go : (b : Bool) → comes_before (key_of row) (key_of r) ≡ b → has_key (placed rs row) key ≡ (same_value (key_of row) key || has_key rs key)
         → has_key (placed (r ∷ rs) row) key ≡ (same_value (key_of row) key || has_key (r ∷ rs) key)
     go true is rest = rw is refl
-    go false is rest = rw is (ap (λ (b : Bool). same_value (key_of r) key || b) rest ∙ turn (same_value (key_of r) key) (same_value (key_of row) key) (has_key rs key))
+    go false is rest =
+        rw is (ap (λ (b : Bool). same_value (key_of r) key || b) rest ∙ turn (same_value (key_of r) key) (same_value (key_of row) key) (has_key rs key))
 
 -- the change leaves a row of its key
 abbrev pub leaves_row : Change → Bool
@@ -106,5 +108,6 @@ set_there (t ∷ tables) (suc p) (suc q) r other = set_there tables p q r (grind
 
 pub set_past : (tables : Tables) (p : ℕ) (r : Rows) → nat_lt p (length tables) ≡ false → rows_at (slice_set tables p r) p ≡ []
 set_past [] p r past = refl
-set_past (t ∷ tables) zero r past = absurd (let z : nat_lt zero (suc (length tables)) ≡ true = grind (arith, nat_tests) in let q : true ≡ false = sym z ∙ past in cc)
+set_past (t ∷ tables) zero r past =
+    absurd (let z : nat_lt zero (suc (length tables)) ≡ true = grind (arith, nat_tests) in let q : true ≡ false = sym z ∙ past in cc)
 set_past (t ∷ tables) (suc p) r past = set_past tables p r (grind (arith, nat_tests, past))

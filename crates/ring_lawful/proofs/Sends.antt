@@ -17,7 +17,7 @@ use Rattle.ring_model.specs.declared.nodes.Durable.{Durable}
 use Rattle.ring_model.specs.declared.nodes.Soft.{Soft}
 use Rattle.ring_model.specs.Steps.{advance}
 use Rattle.ring_model.specs.WellFormed.{IsWellFormed, opid_fits}
-use Rattle.ring_model.proofs.Lists.{both_true}
+use Rattle.ring_types.proofs.Booleans.{both_true}
 use Rattle.ring_lawful.proofs.Chains.{Ordered}
 use Rattle.ring_lawful.proofs.Sized.{Sized}
 
@@ -55,8 +55,10 @@ opid_parts o is =
 pub term_low : (log : List Entry) (top k : ℕ) → list_all (λ (e : Entry). nat_le e.opid.term top) log ≡ true → term_at log k ≤ top
 term_low log top zero all = omega arith
 term_low [] top (suc k) all = omega arith
-term_low (e ∷ log) top (suc zero) all = let z = (both_true (nat_le e.opid.term top) (list_all (λ (e : Entry). nat_le e.opid.term top) log) all).0 in grind (arith, nat_tests, z)
-term_low (e ∷ log) top (suc (suc k)) all = term_low log top (suc k) (both_true (nat_le e.opid.term top) (list_all (λ (e : Entry). nat_le e.opid.term top) log) all).1
+term_low (e ∷ log) top (suc zero) all =
+    let z = (both_true (nat_le e.opid.term top) (list_all (λ (e : Entry). nat_le e.opid.term top) log) all).0 in grind (arith, nat_tests, z)
+term_low (e ∷ log) top (suc (suc k)) all =
+    term_low log top (suc k) (both_true (nat_le e.opid.term top) (list_all (λ (e : Entry). nat_le e.opid.term top) log) all).1
 
 -- what a node's own log and term give
 pub record Tells (ring : Layout) (d : Durable) (s : Soft) : Type 0 where

@@ -25,11 +25,11 @@ use Rattle.ring_model.specs.Nodes.{is_leader}
 use Rattle.ring_model.specs.Replication.{accept, batch_length, batch_limit, batch_of, beat, beat_to, follow_append, is_proxied, leads_it, match_append, on_append, opid_before, opids_of, outgrows, proxy_id, quieter, reply, send_direct, send_proxied, tear_in}
 use Rattle.ring_model.specs.Steps.{demoted, idle, stepped, unknowns}
 use Rattle.ring_model.specs.WellFormed.{EntriesFit, IsWellFormed, all_bytes, opid_fits, opids_follow}
-use Rattle.ring_model.proofs.Lists.{both_true}
+use Rattle.ring_types.proofs.Booleans.{both_true}
 use Rattle.ring_lawful.proofs.Chains.{Chain, end, end_take}
 use Rattle.ring_lawful.proofs.Pairs.{take_short}
 use Rattle.ring_lawful.proofs.Sized.{all_drop, all_take, all_weaker, entry_fits, fit_parts}
-use Rattle.ring_lawful.proofs.SteadyAppend.{Near}
+use Rattle.ring_lawful.proofs.Steady.{Near}
 use Rattle.ring_lawful.proofs.Sends.{AllWell, Tells, opid_is, opid_parts, term_low}
 use Rattle.ring_model.proofs.Beat.{opids_length}
 
@@ -37,7 +37,9 @@ use Rattle.ring_model.proofs.Beat.{opids_length}
 chain_drop : (n t p : ℕ) (xs : List Entry) → n ≤ length xs → Chain t p xs → Chain (end t (take n xs)) (p + n) (drop n xs)
 chain_drop zero t p xs le c = let z : p + 0 ≡ p = omega arith in subst (λ (m : ℕ). Chain t m xs) (sym z) c
 chain_drop (suc n) t p [] le c = absurd (omega (arith, le))
-chain_drop (suc n) t p (x ∷ xs) le c = let z : suc p + n ≡ p + suc n = omega arith in subst (λ (m : ℕ). Chain (end x.opid.term (take n xs)) m (drop n xs)) z (chain_drop n x.opid.term (suc p) xs (omega (arith, le)) c.2)
+chain_drop (suc n) t p (x ∷ xs) le c =
+    let z : suc p + n ≡ p + suc n = omega arith in
+    subst (λ (m : ℕ). Chain (end x.opid.term (take n xs)) m (drop n xs)) z (chain_drop n x.opid.term (suc p) xs (omega (arith, le)) c.2)
 
 follow_of : (top : ℕ) (before : Opid) (es : List Entry) → Chain before.term before.position es → list_all (λ (e : Entry). nat_le e.opid.term top) es ≡ true
     → opids_follow top before (opids_of es) ≡ true
@@ -117,7 +119,9 @@ module _ (ring : Layout) (me : ℕ) (d : Durable) (s : Soft) (x : Tells ring d s
       let low = term_low d.log d.term k x.ordered.low in
       let all = all_take (λ (e : Entry). nat_le e.opid.term d.term) n rest (all_drop (λ (e : Entry). nat_le e.opid.term d.term) k d.log x.ordered.low) in
       let fit = all_take (entry_fits ring) n rest (all_drop (entry_fits ring) k d.log x.sized.entries) in
-      let dropped : Chain (term_at d.log k) k rest = subst (λ (t : ℕ). Chain t k rest) (end_take k d.log in_k) (let z : 0 + k ≡ k = omega arith in subst (λ (m : ℕ). Chain (end 0 (take k d.log)) m rest) z (chain_drop k 0 0 d.log in_k x.ordered.chain)) in
+      let dropped : Chain (term_at d.log k) k rest =
+      subst (λ (t : ℕ). Chain t k rest) (end_take k d.log in_k)
+      (let z : 0 + k ≡ k = omega arith in subst (λ (m : ℕ). Chain (end 0 (take k d.log)) m rest) z (chain_drop k 0 0 d.log in_k x.ordered.chain)) in
       let count = take_short n rest in
       let few = batch_short ring.schema batch_limit group_limit rest in (
         record {
@@ -148,7 +152,11 @@ module _ (ring : Layout) (me : ℕ) (d : Durable) (s : Soft) (x : Tells ring d s
 
       one : (c : Bool) → IsWellFormed ring.schema (if c then send_proxied me (proxy_id ring p.node) d s p.node (opid_before d.log p.next) (batch_of ring.schema (drop (p.next - 1) d.log))
           else send_direct me d s p.node (opid_before d.log p.next) (batch_of ring.schema (drop (p.next - 1) d.log)))
-      one true = let f = b.0 in let l = opids_length (batch_of ring.schema (drop (p.next - 1) d.log)) in let w = f.few in (record { term = f.term; prev = f.prev; commit = f.commit; few = omega (arith, l, w); follow = f.follow; opids = f.opids }, tt)
+      one true =
+          let f = b.0 in
+          let l = opids_length (batch_of ring.schema (drop (p.next - 1) d.log)) in
+          let w = f.few in
+          (record { term = f.term; prev = f.prev; commit = f.commit; few = omega (arith, l, w); follow = f.follow; opids = f.opids }, tt)
       one false = b
 
   pub beat_well : (is_leader s.role ≡ true → Near (length d.log) s.peers) → AllWell ring.schema (beat ring me d s).plan.messages

@@ -59,7 +59,9 @@ elect_well ring me d s x = go (may_elect ring me d s) refl
     room is = let low = (may_stand ring me d s is).term in omega (arith, low)
 
     go : (b : Bool) → may_elect ring me d s ≡ b → AllWell ring.schema (if b then stand ring me d s else idle s).plan.messages
-    go true is = ask_well ring me d (demoted s) _ (unknowns s) _ (requests me (suc d.term) (last d.log) ring.members) (requests_well ring.schema me (suc d.term) (last d.log) ring.members (room is) (last_fits ring d s x))
+    go true is =
+        ask_well ring me d (demoted s) _ (unknowns s) _ (requests me (suc d.term) (last d.log) ring.members)
+        (requests_well ring.schema me (suc d.term) (last d.log) ring.members (room is) (last_fits ring d s x))
     go false is = tt
 
 pub reply_well : (ring : Layout) (me from : ℕ) (reply : VoteReply) (d : Durable) (s : Soft)

@@ -69,7 +69,9 @@ unfolding on_answer
 answered_well ring me from answer d s term = go (counts d s answer && answer.ok)
   where
     go : (a : Bool) → AllWell ring.schema (if a then with_more (on_ack ring me d s from answer) (after_ok me d (on_ack ring me d s from answer).soft.peers from s.transfer) else on_ack ring me d s from answer).plan.messages
-    go true = well_join ring.schema (on_ack ring me d s from answer).plan.messages (after_ok me d (on_ack ring me d s from answer).soft.peers from s.transfer) (ack_well ring me from answer d s) (after_well ring.schema me d _ from s.transfer term)
+    go true =
+        well_join ring.schema (on_ack ring me d s from answer).plan.messages (after_ok me d (on_ack ring me d s from answer).soft.peers from s.transfer)
+        (ack_well ring me from answer d s) (after_well ring.schema me d _ from s.transfer term)
     go false = ack_well ring me from answer d s
 
 pub write_well : (ring : Layout) (me client : ℕ) (changes : List Change) (d : Durable) (s : Soft)
@@ -152,8 +154,12 @@ heard_well ring me from answer d s (mock.On leader round asked passed failed) te
     count : (a b : Bool) → AllWell ring.schema (if a then idle s
         else (if b then with_answer ring me d s leader answer.round asked passed failed (passed ++ from ∷ []) failed else with_answer ring me d s leader answer.round asked passed failed passed (failed ++ from ∷ []))).plan.messages
     count true b = tt
-    count false true = deciding_well ring.schema me leader d.term answer.round (verdict ring leader me passed failed) (verdict ring leader me (passed ++ from ∷ []) failed) term
-    count false false = deciding_well ring.schema me leader d.term answer.round (verdict ring leader me passed failed) (verdict ring leader me passed (failed ++ from ∷ [])) term
+    count false true =
+        deciding_well ring.schema me leader d.term answer.round (verdict ring leader me passed failed)
+        (verdict ring leader me (passed ++ from ∷ []) failed) term
+    count false false =
+        deciding_well ring.schema me leader d.term answer.round (verdict ring leader me passed failed)
+        (verdict ring leader me passed (failed ++ from ∷ [])) term
 
     go : (b : Bool) → AllWell ring.schema (if b then count_answer ring me d s from answer leader asked passed failed else idle s).plan.messages
     go true = count (is_listed passed from || is_listed failed from) answer.ok

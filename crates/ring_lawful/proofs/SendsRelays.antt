@@ -10,7 +10,7 @@ use Rattle.ring_types.specs.Rings.{Layout}
 use Rattle.ring_model.specs.declared.messages.ProxyAppend.{ProxyAppend}
 use Rattle.ring_model.specs.Replication.{found, opids_of}
 use Rattle.ring_model.specs.WellFormed.{EntriesFit, OpidsFit, opid_fits, opids_follow}
-use Rattle.ring_model.proofs.Lists.{both_true}
+use Rattle.ring_types.proofs.Booleans.{both_true}
 use Rattle.ring_lawful.proofs.Sized.{entry_fits}
 use Rattle.ring_lawful.proofs.SendsAppends.{groups_of, payloads_of}
 
@@ -42,7 +42,9 @@ found_follow log top before (o ∷ os) is = go (entry_at log o.position) (found_
     go (Some e) ih = pick (same_opid e.opid o) refl
       where
         pick : (b : Bool) → same_opid e.opid o ≡ b → opids_follow top before (opids_of (if b then e ∷ found log os else [])) ≡ true
-        pick true same = subst (λ (w : Opid). opids_follow top before (w ∷ opids_of (found log os)) ≡ true) (sym (opid_same e.opid o same)) (let here = parts.0 in rw here ih)
+        pick true same =
+            subst (λ (w : Opid). opids_follow top before (w ∷ opids_of (found log os)) ≡ true) (sym (opid_same e.opid o same))
+            (let here = parts.0 in rw here ih)
         pick false same = refl
 
 found_opids : (log : List Entry) (os : List Opid) → list_all opid_fits os ≡ true → list_all opid_fits (opids_of (found log os)) ≡ true
@@ -58,7 +60,8 @@ found_opids log (o ∷ os) is = go (entry_at log o.position) (found_opids log os
     go (Some e) ih = pick (same_opid e.opid o) refl
       where
         pick : (b : Bool) → same_opid e.opid o ≡ b → list_all opid_fits (opids_of (if b then e ∷ found log os else [])) ≡ true
-        pick true same = subst (λ (w : Opid). list_all opid_fits (w ∷ opids_of (found log os)) ≡ true) (sym (opid_same e.opid o same)) (let here = parts.0 in rw here ih)
+        pick true same =
+            subst (λ (w : Opid). list_all opid_fits (w ∷ opids_of (found log os)) ≡ true) (sym (opid_same e.opid o same)) (let here = parts.0 in rw here ih)
         pick false same = refl
 
 found_short : (log : List Entry) (os : List Opid) → length (found log os) ≤ length os

@@ -21,7 +21,8 @@ use Rattle.ring_model.specs.declared.messages.Message.{Message}
 use Rattle.ring_model.specs.declared.nodes.Durable.{Durable}
 use Rattle.ring_model.specs.Actions.{all_done, done, has_room, is_prepared, pair_of, vote_in, votes_above}
 use Rattle.ring_model.specs.Steps.{engine_actions, follow_actions, prepare_entry}
-use Rattle.ring_model.proofs.Lists.{all_of, both_true}
+use Rattle.ring_types.proofs.Booleans.{both_true}
+use Rattle.ring_model.proofs.Lists.{all_of}
 use Rattle.ring_lawful.proofs.Along.{Allowed, allowed_join}
 use Rattle.ring_lawful.proofs.Pairs.{at_contains}
 use Rattle.ring_types.specs.declared.entries.Payload.{Payload}
@@ -146,7 +147,8 @@ none_later (w ∷ votes) t u lt low =
 pub increasing : (votes : List Vote) → Rising votes → IsStrictlyIncreasing (map (λ (v : Vote). v.term) votes)
 increasing [] r k lt = absurd (omega arith)
 increasing (v ∷ []) r k lt = absurd (omega arith)
-increasing (v ∷ w ∷ votes) r zero lt = let z = both_true (nat_lt v.term w.term) (list_all (λ (w : Vote). nat_lt v.term w.term) votes) r.0 in grind (arith, nat_tests, z.0)
+increasing (v ∷ w ∷ votes) r zero lt =
+    let z = both_true (nat_lt v.term w.term) (list_all (λ (w : Vote). nat_lt v.term w.term) votes) r.0 in grind (arith, nat_tests, z.0)
 increasing (v ∷ w ∷ votes) r (suc k) lt = let z : suc k + 1 ≡ suc (k + 1) = omega arith in let y = increasing (w ∷ votes) r.1 k (omega (arith, lt)) in rw z y
 
 -- ---- each action
@@ -157,7 +159,8 @@ sized_at ring d e t v l x = record {
   files = subst (λ (w : List Entry). turns w ≤ LAST_FILE - 1) (sym l) x.files;
   few = subst (λ (w : List Vote). length w ≤ 1024) (sym v) x.few;
   rise = subst Rising (sym v) x.rise;
-  below = subst (λ (n : ℕ). list_all (λ (w : Vote). nat_le w.term n) e.votes ≡ true) (sym t) (subst (λ (ws : List Vote). list_all (λ (w : Vote). nat_le w.term d.term) ws ≡ true) (sym v) x.below);
+  below = subst (λ (n : ℕ). list_all (λ (w : Vote). nat_le w.term n) e.votes ≡ true) (sym t)
+      (subst (λ (ws : List Vote). list_all (λ (w : Vote). nat_le w.term d.term) ws ≡ true) (sym v) x.below);
 }
 
 pub sized_one : (ring : Layout) (d : Durable) (a : Action) → May ring d a → Sized ring d → Sized ring (done d a)
@@ -167,20 +170,25 @@ sized_one ring d (action.SetTerm t) m x = record {
   files = x.files;
   few = x.few;
   rise = x.rise;
-  below = all_weaker (λ (w : Vote). nat_le w.term d.term) (λ (w : Vote). nat_le w.term t) d.votes (λ w is. let lt = m.0 in grind (arith, nat_tests, is, lt)) x.below;
+  below = all_weaker (λ (w : Vote). nat_le w.term d.term) (λ (w : Vote). nat_le w.term t) d.votes
+      (λ w is. let lt = m.0 in grind (arith, nat_tests, is, lt)) x.below;
 }
 sized_one ring d (action.Vote v floor) m x =
     let low = none_in d.votes d.term m.2 x.below in
     let is = m.1 in
-    let high : list_all (λ (w : Vote). nat_lt w.term v.term) (votes_above floor d.votes) ≡ true = all_filter (λ (w : Vote). nat_lt w.term v.term) (λ (w : Vote). nat_lt floor w.term) d.votes (subst (λ (t : ℕ). list_all (λ (w : Vote). nat_lt w.term t) d.votes ≡ true) (sym is) low) in
-    let one : list_all (λ (w : Vote). nat_le w.term d.term) (v ∷ []) ≡ true = (let z : nat_le v.term d.term ≡ true = grind (arith, nat_tests, is) in rw z refl) in
+    let high : list_all (λ (w : Vote). nat_lt w.term v.term) (votes_above floor d.votes) ≡ true =
+    all_filter (λ (w : Vote). nat_lt w.term v.term) (λ (w : Vote). nat_lt floor w.term) d.votes
+    (subst (λ (t : ℕ). list_all (λ (w : Vote). nat_lt w.term t) d.votes ≡ true) (sym is) low) in
+    let one : list_all (λ (w : Vote). nat_le w.term d.term) (v ∷ []) ≡ true =
+    (let z : nat_le v.term d.term ≡ true = grind (arith, nat_tests, is) in rw z refl) in
     record {
       term = x.term;
       entries = x.entries;
       files = x.files;
       few = (let n = length_push (votes_above floor d.votes) v in let room : length (votes_above floor d.votes) < 1024 = (let r = m.0 in grind (arith, nat_tests, r)) in omega (arith, n, room));
       rise = rising_push (votes_above floor d.votes) v (rising_filter (λ (w : Vote). nat_lt floor w.term) d.votes x.rise) high;
-      below = all_join (λ (w : Vote). nat_le w.term d.term) (votes_above floor d.votes) (v ∷ []) (all_filter (λ (w : Vote). nat_le w.term d.term) (λ (w : Vote). nat_lt floor w.term) d.votes x.below) one;
+      below = all_join (λ (w : Vote). nat_le w.term d.term) (votes_above floor d.votes) (v ∷ [])
+          (all_filter (λ (w : Vote). nat_le w.term d.term) (λ (w : Vote). nat_lt floor w.term) d.votes x.below) one;
     }
 sized_one ring d (action.Append es) m x = record {
   term = x.term;
@@ -232,7 +240,8 @@ pair_fits ring e p fit has = go e.payload refl has
     go (payload.Txn t) is has =
         let z : pair_of e ≡ Some (record { opid = e.opid; txn = t }) = rw is refl in
         let same : record { opid = e.opid; txn = t } ≡ p = (let w : Some (record { opid = e.opid; txn = t }) ≡ Some p = sym z ∙ has in cc) in
-        subst (λ (q : Pair). (payload_fits ring.schema (payload.Txn q.txn) ≡ true) × (group_bytes ring.schema (payload.Txn q.txn) ≤ group_limit)) same (one t is)
+        subst (λ (q : Pair). (payload_fits ring.schema (payload.Txn q.txn) ≡ true) × (group_bytes ring.schema (payload.Txn q.txn) ≤ group_limit)) same
+        (one t is)
 
 prepare_fits : (ring : Layout) (d : Durable) (pairs : List Pair) (e : Entry) → entry_fits ring e ≡ true → Allowed (May ring) d (prepare_entry pairs (Some e))
 prepare_fits ring d pairs e fit = go (pair_of e) refl (is_prepared pairs e.opid)
@@ -254,7 +263,8 @@ engine_may : (ring : Layout) (n a : ℕ) (d : Durable) (l : List Entry) (pairs :
     → Allowed (May ring) d (engine_actions l pairs a n)
 engine_may ring zero a d l pairs fit = tt
 engine_may ring (suc n) a d l pairs fit =
-    allowed_join (May ring) d (prepare_entry pairs (entry_at l (suc a))) (action.Commit (suc a) ∷ engine_actions l pairs (suc a) n) (prepare_may ring d pairs l (suc a) fit)
+    allowed_join (May ring) d (prepare_entry pairs (entry_at l (suc a))) (action.Commit (suc a) ∷ engine_actions l pairs (suc a) n)
+    (prepare_may ring d pairs l (suc a) fit)
     (tt, engine_may ring n (suc a) (done (all_done d (prepare_entry pairs (entry_at l (suc a)))) (action.Commit (suc a))) l pairs fit)
 
 pub follow_may : (ring : Layout) (me : ℕ) (d : Durable) (c : ℕ) → list_all (entry_fits ring) d.log ≡ true → Allowed (May ring) d (follow_actions ring me d c)

@@ -23,7 +23,8 @@ use Rattle.ring_model.specs.Actions.{all_done}
 use Rattle.ring_model.specs.Nodes.{is_leader}
 use Rattle.ring_model.specs.Replication.{accept, batch_of, beat, beat_to, file_limit, follow_append, found, is_proxied, kept_position, leads_it, match_append, on_append, opid_before, outgrows, proxy_id, quieter, relay, reply, send_direct, send_proxied, take_in, tear_in, unmatched}
 use Rattle.ring_model.specs.Steps.{demoted, idle, stepped, unknowns}
-use Rattle.ring_model.proofs.Lists.{all_of, both_true}
+use Rattle.ring_types.proofs.Booleans.{both_true}
+use Rattle.ring_model.proofs.Lists.{all_of}
 use Rattle.ring_lawful.proofs.Along.{Allowed, allowed_join}
 use Rattle.ring_lawful.proofs.Pairs.{at_contains}
 use Rattle.ring_lawful.proofs.Sized.{AllFit, BodyFits, May, Sized, all_drop, all_take, entry_fits, follow_may, rotates_is, sized_after, turns, turns_take}
@@ -79,7 +80,9 @@ module _ (ring : Layout) (me : ℕ) (d : Durable) (s : Soft) (first : List Actio
       let acts : List Action = take_in ring me d kept rest in
       let n = r.1 in
       record {
-        allowed = allowed_join (May ring) d first _ a (allowed_join (May ring) (all_done d first) acts _ (taken_may ring me kept d (all_done d first) rest l r.0 (omega (arith, n, few)))
+        allowed =
+            allowed_join (May ring) d first _ a
+            (allowed_join (May ring) (all_done d first) acts _ (taken_may ring me kept d (all_done d first) rest l r.0 (omega (arith, n, few)))
             (follow_may ring me (all_done (all_done d first) acts) _ (sized_after ring (all_done d first) acts (taken_may ring me kept d (all_done d first) rest l r.0 (omega (arith, n, few))) (sized_after ring d first a x)).entries));
         short = λ bad. absurd (let z : Follower ≡ Candidate = sym role ∙ bad in cc);
         sent = (fits, tt);
@@ -104,7 +107,8 @@ follow_keeps ring me d s sent x short fits fit few = go (nat_lt d.term sent.term
     go : (b : Bool) → nat_lt d.term sent.term ≡ b → (o : Role) → s.role ≡ o
         → Keeps ring d (if b then match_append ring me d (demoted s) (action.SetTerm sent.term ∷ []) (unknowns s) sent
         else elim o [ Follower ↦ match_append ring me d s [] [] sent | Candidate ↦ match_append ring me d (demoted s) [] (unknowns s) sent | Leader ↦ idle s ])
-    go true y o z = match_keeps ring me d (demoted s) (action.SetTerm sent.term ∷ []) (unknowns s) sent x ((grind (arith, nat_tests, y), fits), tt) refl refl fits fit few
+    go true y o z =
+        match_keeps ring me d (demoted s) (action.SetTerm sent.term ∷ []) (unknowns s) sent x ((grind (arith, nat_tests, y), fits), tt) refl refl fits fit few
     go false y Follower z = match_keeps ring me d s [] [] sent x tt refl z fits fit few
     go false y Candidate z = match_keeps ring me d (demoted s) [] (unknowns s) sent x tt refl refl fits fit few
     go false y Leader z = idle_keeps ring d s short
@@ -144,7 +148,8 @@ unfolding beat
 beat_keeps ring me d s x short = go (is_leader s.role)
   where
     go : (b : Bool) → Keeps ring d (if b then stepped [] (map (beat_to ring me d s) s.peers) [] (record s { peers = map quieter s.peers }) else idle s)
-    go true = quiet_keeps ring d s (record s { peers = map quieter s.peers }) (map (beat_to ring me d s) s.peers) [] short refl (sends_fit ring me d s s.peers x)
+    go true =
+        quiet_keeps ring d s (record s { peers = map quieter s.peers }) (map (beat_to ring me d s) s.peers) [] short refl (sends_fit ring me d s s.peers x)
     go false = idle_keeps ring d s short
 
 at_fits : (ring : Layout) (log : List Entry) (k : ℕ) (e : Entry) → list_all (entry_fits ring) log ≡ true → entry_at log k ≡ Some e → entry_fits ring e ≡ true

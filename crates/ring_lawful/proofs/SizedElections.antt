@@ -25,7 +25,7 @@ use Rattle.ring_model.specs.Nodes.{is_leader}
 use Rattle.ring_model.specs.Replication.{reply}
 use Rattle.ring_model.specs.Elections.{answer_by, answer_request, candidate_hears, cast_actions, count_grant, elect, floor_of, grant_vote, granted_now, has_granted, has_won, lead, lead_or_ask, leading, may_elect, new_vote, on_reply, on_request, refuse_vote, refused_now, requests, stand, stand_actions, voter_answers}
 use Rattle.ring_model.specs.Steps.{demoted, idle, own_entry, stepped, unknowns}
-use Rattle.ring_model.proofs.Lists.{both_true}
+use Rattle.ring_types.proofs.Booleans.{both_true}
 use Rattle.ring_model.proofs.HeldElections.{done_join}
 use Rattle.ring_lawful.proofs.Along.{Allowed, allowed_join}
 use Rattle.ring_lawful.proofs.Sized.{AllFit, May, Sized, none_later, turns}
@@ -38,7 +38,9 @@ unfolding lead_or_ask
 ask_keeps ring me d s first says grants asks x a short few fit = go (has_won ring me (all_done d first) grants)
   where
     go : (b : Bool) → Keeps ring d (if b then lead ring me d s first says grants else stepped first asks says (record s { role = Candidate; grants = grants }))
-    go true = advance_keeps ring me d (leading ring me (suc (length (all_done d first).log)) s grants) (first ++ (action.Append (own_entry ring me (all_done d first) payload.NoOp ∷ []) ∷ [])) says x
+    go true =
+        advance_keeps ring me d (leading ring me (suc (length (all_done d first).log)) s grants)
+        (first ++ (action.Append (own_entry ring me (all_done d first) payload.NoOp ∷ []) ∷ [])) says x
         (allowed_join (May ring) d first (action.Append (own_entry ring me (all_done d first) payload.NoOp ∷ []) ∷ []) a
         ((own_fits ring me (all_done d first) payload.NoOp (omega arith) (omega (arith, short)) refl, omega (arith, few)), tt)) refl
     go false = record { allowed = a; short = λ is. short; sent = fit }
@@ -151,7 +153,9 @@ request_keeps ring me from asked d s x short fits = voter (votes ring me)
     go : (a : Bool) → nat_lt asked.term d.term ≡ a → (b : Bool) → nat_lt d.term asked.term ≡ b → Keeps ring d (if a then refused_now me s [] [] from d.term
         else (if b then answer_request ring me d (demoted s) (action.SetTerm asked.term ∷ []) (unknowns s) from asked else answer_request ring me d s [] [] from asked))
     go true y b z = quiet_keeps ring d s s (refuse_vote me from d.term ∷ []) [] short refl (x.term, tt)
-    go false y true z = answer_keeps ring me d (demoted s) (action.SetTerm asked.term ∷ []) (unknowns s) from asked ((grind (arith, nat_tests, z), fits), tt) refl refl (follower_short (done d (action.SetTerm asked.term)) (demoted s) refl) fits
+    go false y true z =
+        answer_keeps ring me d (demoted s) (action.SetTerm asked.term ∷ []) (unknowns s) from asked ((grind (arith, nat_tests, z), fits), tt) refl refl
+        (follower_short (done d (action.SetTerm asked.term)) (demoted s) refl) fits
     go false y false z = answer_keeps ring me d s [] [] from asked tt (grind (arith, nat_tests, y, z)) refl short fits
 
     voter : (b : Bool) → Keeps ring d (if b then voter_answers ring me d s from asked else idle s)

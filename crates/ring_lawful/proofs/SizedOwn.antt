@@ -1,5 +1,5 @@
 -- A leader's own entries fit, for a write or a rotation that would go beyond a limit is refused.
-use Rattle.std.proofs.Common.{◌≡◌, ℕ, ◌+◌, ◌-◌, ◌^◌, ◌<◌, ◌≤◌, ◌==◌, ◌&&◌, ◌||◌, [], ◌∷◌, ◌∙◌, if◌then◌else◌, Bool, List, None, Option, Some, ap, arith, false, length, not, refl, suc, sym, true}
+use Rattle.std.proofs.Common.{◌≡◌, ℕ, ◌+◌, ◌-◌, ◌^◌, ◌<◌, ◌≤◌, ◌==◌, ◌&&◌, [], ◌∷◌, ◌∙◌, if◌then◌else◌, Bool, List, None, Option, Some, ap, arith, false, length, not, refl, suc, sym, true}
 use Rattle.std.proofs.lemmas.Bool.Decides.{nat_tests}
 use Rattle.std.specs.Prelude.{min, nat_le, nat_lt}
 use Rattle.std.specs.List.{list_all}
@@ -31,7 +31,7 @@ use Rattle.ring_model.specs.Replication.{counts, file_limit, file_number, heard_
 use Rattle.ring_model.specs.Steps.{demoted, idle, own_entry, stepped, unknowns}
 use Rattle.ring_model.specs.Transfers.{after_ok, has_matched, on_answer, with_more}
 use Rattle.ring_model.specs.Writes.{awaits, change_refusal, committed_rows, is_exhausted, is_handing, length_limit, lock_of, lock_refusal, refused, rotate, rotate_refusal, rotate_step, size_refusal, write, write_entry, write_entry_step, write_refusal, write_txn}
-use Rattle.ring_model.proofs.Lists.{both_true}
+use Rattle.ring_types.proofs.Booleans.{both_false, both_true}
 use Rattle.ring_lawful.proofs.Payloads.{checked_fit, number_fits}
 use Rattle.ring_lawful.proofs.Sized.{AllFit, Sized, fit_join, rotates_is, turns}
 use Rattle.ring_lawful.proofs.SizedSteps.{IsShort, Keeps, advance_keeps, idle_keeps, own_fits, quiet_keeps, raise_keeps}
@@ -53,7 +53,9 @@ ack_keeps ring me from answer d s sized short fits = go (nat_lt d.term answer.te
     go : (a : Bool) → nat_lt d.term answer.term ≡ a → (b : Bool) → counts d s answer ≡ b
         → Keeps ring d (if a then stepped (action.SetTerm answer.term ∷ []) [] (unknowns s) (demoted s) else (if b then leader_hears ring me d s from answer else idle s))
     go true x b y = raise_keeps ring answer.term d s [] (unknowns s) (grind (arith, nat_tests, x)) fits tt
-    go false x true y = advance_keeps ring me d (record s { peers = heard_among s.peers from answer.ok answer.position }) [] [] sized tt (leads_is s (both_true (is_leader s.role) (answer.term == d.term) (both_true (is_leader s.role && answer.term == d.term) (nat_le answer.position (length d.log)) y).0).0)
+    go false x true y =
+        advance_keeps ring me d (record s { peers = heard_among s.peers from answer.ok answer.position }) [] [] sized tt
+        (leads_is s (both_true (is_leader s.role) (answer.term == d.term) (both_true (is_leader s.role && answer.term == d.term) (nat_le answer.position (length d.log)) y).0).0)
     go false x false y = idle_keeps ring d s short
 
 over_fit : (ring : Layout) (me from : ℕ) (d : Durable) (peers : List Peer) (t : Transfer) → AllFit ring (after_ok me d peers from t)
@@ -75,7 +77,11 @@ answered_keeps ring me from answer d s x short fits = go (counts d s answer && a
     b = ack_keeps ring me from answer d s x short fits
 
     go : (a : Bool) → Keeps ring d (if a then with_more (on_ack ring me d s from answer) (after_ok me d (on_ack ring me d s from answer).soft.peers from s.transfer) else on_ack ring me d s from answer)
-    go true = record { allowed = b.allowed; short = b.short; sent = fit_join ring (on_ack ring me d s from answer).plan.messages (after_ok me d (on_ack ring me d s from answer).soft.peers from s.transfer) b.sent (over_fit ring me from d (on_ack ring me d s from answer).soft.peers s.transfer) }
+    go true = record {
+      allowed = b.allowed;
+      short = b.short;
+      sent = fit_join ring (on_ack ring me d s from answer).plan.messages (after_ok me d (on_ack ring me d s from answer).soft.peers from s.transfer) b.sent (over_fit ring me from d (on_ack ring me d s from answer).soft.peers s.transfer);
+    }
     go false = b
 
 -- ---- own entries
@@ -91,14 +97,6 @@ small_is n is = grind (arith, nat_tests, is)
 short_is : (n : ℕ) → nat_le (TERM_END - 1) n ≡ false → suc n < TERM_END
 short_is n is = grind (arith, nat_tests, is)
 
-second_false : (a b : Bool) → (a || b) ≡ false → b ≡ false
-second_false false b is = is
-second_false true b is = absurd (let z : true ≡ false = is in cc)
-
-first_false : (a b : Bool) → (a || b) ≡ false → a ≡ false
-first_false false b is = refl
-first_false true b is = absurd (let z : true ≡ false = is in cc)
-
 sizes_fit : (ring : Layout) (me : ℕ) (d : Durable) (changes : List Change) → size_refusal ring me d changes ≡ None
     → (group_bytes ring.schema (payload.Txn (write_txn ring me d changes)) ≤ group_limit) × (suc (length d.log) < TERM_END) × (is_number (write_txn ring me d changes).gtid.number ≡ true)
 sizes_fit ring me d changes is = go (nat_lt group_limit (group_size ring.schema (payload.Txn (write_txn ring me d changes)))) refl (is_exhausted ring me d) refl is
@@ -108,7 +106,12 @@ sizes_fit ring me d changes is = go (nat_lt group_limit (group_size ring.schema 
         → (group_bytes ring.schema (payload.Txn (write_txn ring me d changes)) ≤ group_limit) × (suc (length d.log) < TERM_END) × (is_number (write_txn ring me d changes).gtid.number ≡ true)
     go true x b y is = absurd cc
     go false x true y is = absurd cc
-    go false x false y is = (small_is (group_bytes ring.schema (payload.Txn (write_txn ring me d changes))) x, short_is (length d.log) (second_false _ (nat_le length_limit (length d.log)) y), number_fits (greatest_number (server_of ring me) d.log) (first_false _ (nat_le length_limit (length d.log)) y))
+    go false x false y is =
+        let room = both_false _ (nat_le length_limit (length d.log)) y in (
+          small_is (group_bytes ring.schema (payload.Txn (write_txn ring me d changes))) x,
+          short_is (length d.log) room.1,
+          number_fits (greatest_number (server_of ring me) d.log) room.0,
+        )
 
 lock_asked : (ring : Layout) (me : ℕ) (d : Durable) (changes : List Change) → lock_refusal ring me d changes ≡ None → size_refusal ring me d changes ≡ None
 lock_asked ring me d changes is = go (lock_of d.prepared changes) is
@@ -155,7 +158,12 @@ may_write ring me d s changes some is = go (is_leader s.role) refl (is_ready s) 
         let c = checked_fit ring.schema (committed_rows ring d) changes (change_checked ring me d changes is) in
         let a : nat_le 1 (length changes) ≡ true = grind (arith, nat_tests, some) in
         let n = y.2 in
-        record { leads = leads_is s x; small = y.0; short = y.1; fits = all_three (nat_le 1 (length changes)) (list_all (change_fits ring.schema) changes) (is_number (write_txn ring me d changes).gtid.number) a c n }
+        record {
+          leads = leads_is s x;
+          small = y.0;
+          short = y.1;
+          fits = all_three (nat_le 1 (length changes)) (list_all (change_fits ring.schema) changes) (is_number (write_txn ring me d changes).gtid.number) a c n;
+        }
 
 pub write_keeps : (ring : Layout) (me client : ℕ) (changes : List Change) (d : Durable) (s : Soft) → nat_lt 0 (length changes) ≡ true → Sized ring d
     → IsShort d s → Keeps ring d (write ring me d s client changes)
@@ -169,7 +177,8 @@ write_keeps ring me client changes d s some x short = go (write_refusal ring me 
         let m = may_write ring me d s changes some is in
         let e : Entry = write_entry ring me d changes in
         let n = x.files in
-        advance_keeps ring me d (awaits s client e (write_txn ring me d changes).gtid) (action.Prepare (record { opid = e.opid; txn = write_txn ring me d changes }) ∷ action.Append (e ∷ []) ∷ []) [] x
+        advance_keeps ring me d (awaits s client e (write_txn ring me d changes).gtid)
+        (action.Prepare (record { opid = e.opid; txn = write_txn ring me d changes }) ∷ action.Append (e ∷ []) ∷ []) [] x
         ((m.fits, m.small), ((own_fits ring me d (payload.Txn (write_txn ring me d changes)) m.small m.short m.fits, omega (arith, n)), tt)) m.leads
 
 record MayRotate (d : Durable) (s : Soft) : Type 0 where
@@ -193,7 +202,7 @@ may_rotate ring me d s is = go (is_leader s.role) refl (is_ready s) (is_handing 
     go true x true false false y true z is = absurd cc
     go true x true false false y false z is = record {
       leads = leads_is s x;
-      short = short_is (length d.log) (second_false _ (nat_le length_limit (length d.log)) y);
+      short = short_is (length d.log) (both_false _ (nat_le length_limit (length d.log)) y).1;
       files = (let w = file_is (rotates d.log) z in let q = rotates_is d.log in omega (arith, w, q));
     }
 
@@ -207,4 +216,5 @@ rotate_keeps ring me client d s x short = go (rotate_refusal ring me d s) refl
     go None is =
         let m = may_rotate ring me d s is in
         let n = m.files in
-        advance_keeps ring me d s (action.Append (own_entry ring me d payload.Rotate ∷ []) ∷ []) _ x ((own_fits ring me d payload.Rotate (omega arith) m.short refl, omega (arith, n)), tt) m.leads
+        advance_keeps ring me d s (action.Append (own_entry ring me d payload.Rotate ∷ []) ∷ []) _ x
+        ((own_fits ring me d payload.Rotate (omega arith) m.short refl, omega (arith, n)), tt) m.leads

@@ -46,14 +46,17 @@ idle_keeps ring d s x = quiet_keeps ring d s s [] [] x refl tt
 
 pub raise_keeps : (ring : Layout) (t : ℕ) (d : Durable) (s : Soft) (ms : List Message) (says : List Say) → d.term < t → t < TERM_END → AllFit ring ms
     → Keeps ring d (stepped (action.SetTerm t ∷ []) ms says (demoted s))
-raise_keeps ring t d s ms says up fits fit = record { allowed = ((up, fits), tt); short = follower_short (done d (action.SetTerm t)) (demoted s) refl; sent = fit }
+raise_keeps ring t d s ms says up fits fit =
+    record { allowed = ((up, fits), tt); short = follower_short (done d (action.SetTerm t)) (demoted s) refl; sent = fit }
 
 -- ---- a leader's step
 pub advance_keeps : (ring : Layout) (me : ℕ) (d : Durable) (s : Soft) (first : List Action) (says : List Say) → Sized ring d → Allowed (May ring) d first
     → s.role ≡ Leader → Keeps ring d (advance ring me d s first says)
 unfolding advance
 advance_keeps ring me d s first says x a role = record {
-  allowed = allowed_join (May ring) d first (follow_actions ring me (all_done d first) (commit_count ring me (all_done d first).term (all_done d first).log s)) a (follow_may ring me (all_done d first) (commit_count ring me (all_done d first).term (all_done d first).log s) (sized_after ring d first a x).entries);
+  allowed = allowed_join (May ring) d first
+      (follow_actions ring me (all_done d first) (commit_count ring me (all_done d first).term (all_done d first).log s)) a
+      (follow_may ring me (all_done d first) (commit_count ring me (all_done d first).term (all_done d first).log s) (sized_after ring d first a x).entries);
   short = λ bad. absurd (let z : Leader ≡ Candidate = sym role ∙ bad in cc);
   sent = tt;
 }

@@ -132,7 +132,8 @@ hand_fits ring me d peers target = go (has_matched peers target (length d.log))
 
 result_keeps : (ring : Layout) (me : ℕ) (d : Durable) (s : Soft) (ok : Bool) (target client : ℕ) → IsShort d s
     → Keeps ring d (result_heard me d s ok target client)
-result_keeps ring me d s true target client short = quiet_keeps ring d s (record s { transfer = transfer.Handing target client }) _ _ short refl (hand_fits ring me d s.peers target)
+result_keeps ring me d s true target client short =
+    quiet_keeps ring d s (record s { transfer = transfer.Handing target client }) _ _ short refl (hand_fits ring me d s.peers target)
 result_keeps ring me d s false target client short = quiet_keeps ring d s (record s { transfer = transfer.Off }) [] _ short refl tt
 
 transfer_heard : (ring : Layout) (me : ℕ) (d : Durable) (s : Soft) (sent : MockResult) (t : Transfer) → IsShort d s

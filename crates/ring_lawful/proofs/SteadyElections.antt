@@ -28,7 +28,7 @@ use Rattle.ring_lawful.proofs.Along.{Allowed, allowed_join}
 use Rattle.ring_lawful.proofs.EngineAppend.{follow_log}
 use Rattle.ring_lawful.proofs.EngineSteps.{greatest_bounds}
 use Rattle.ring_lawful.proofs.Chains.{Ordered, Orderly, end_low, follow_orderly, length_join, ordered_after}
-use Rattle.ring_lawful.proofs.SteadyAppend.{Counted, Near, Steady, idle_steady, quiet_steady}
+use Rattle.ring_lawful.proofs.Steady.{Counted, Near, Steady, idle_steady, quiet_steady}
 use Rattle.ring_lawful.proofs.SteadyPeers.{near_first, near_more}
 
 -- ---- stepping down
@@ -46,7 +46,8 @@ advance_steady ring me d s first says x a inside near =
     let c = commit_count ring me e.term e.log s in
     let b = greatest_bounds (may_commit ring me e.term e.log s.peers) s.commit (length e.log) (length e.log) inside (omega arith) in
     let o = ordered_after d first a x in
-    let j : length (all_done d (first ++ follow_actions ring me e c)).log ≡ length e.log = ap (λ (w : Durable). length w.log) (done_join d first (follow_actions ring me e c)) ∙ ap length (follow_log ring me e c) in
+    let j : length (all_done d (first ++ follow_actions ring me e c)).log ≡ length e.log =
+    ap (λ (w : Durable). length w.log) (done_join d first (follow_actions ring me e c)) ∙ ap length (follow_log ring me e c) in
     record {
       allowed = allowed_join Orderly d first (follow_actions ring me e c) a (follow_orderly ring me e c o.applied b.1);
       inside = (let h = b.1 in omega (arith, j, h));
@@ -62,7 +63,10 @@ own_orderly ring me d p x =
 
 own_more : (d : Durable) (first : List Action) (e : Entry)
     → length (all_done d (first ++ (action.Append (e ∷ []) ∷ []))).log ≡ suc (length (all_done d first).log)
-own_more d first e = let j = ap (λ (w : Durable). length w.log) (done_join d first (action.Append (e ∷ []) ∷ [])) in let n = length_join (all_done d first).log (e ∷ []) in omega (arith, j, n)
+own_more d first e =
+    let j = ap (λ (w : Durable). length w.log) (done_join d first (action.Append (e ∷ []) ∷ [])) in
+    let n = length_join (all_done d first).log (e ∷ []) in
+    omega (arith, j, n)
 
 ask_steady : (ring : Layout) (me : ℕ) (d : Durable) (s : Soft) (first : List Action) (says : List Say) (grants : List Grant) (asks : List Message)
     → Ordered d → Allowed Orderly d first → s.commit ≤ length (all_done d first).log
@@ -73,7 +77,8 @@ ask_steady ring me d s first says grants asks x a inside = go (has_won ring me (
     go : (b : Bool) → Steady d (if b then lead ring me d s first says grants else stepped first asks says (record s { role = Candidate; grants = grants }))
     go true =
         let n = own_more d first (own_entry ring me (all_done d first) payload.NoOp) in
-        advance_steady ring me d (leading ring me (suc (length (all_done d first).log)) s grants) (first ++ (action.Append (own_entry ring me (all_done d first) payload.NoOp ∷ []) ∷ [])) says x
+        advance_steady ring me d (leading ring me (suc (length (all_done d first).log)) s grants)
+        (first ++ (action.Append (own_entry ring me (all_done d first) payload.NoOp ∷ []) ∷ [])) says x
         (allowed_join Orderly d first (action.Append (own_entry ring me (all_done d first) payload.NoOp ∷ []) ∷ []) a (own_orderly ring me (all_done d first) payload.NoOp (ordered_after d first a x), tt))
         (omega (arith, n, inside))
         (λ is. near_first me (suc (length (all_done d first).log)) _ ring.members (omega arith) (omega (arith, n)))
@@ -139,7 +144,9 @@ answer_steady ring me d o first says from asked p = go (vote_in d.votes asked.te
 
     fresh : (b c : Bool)
         → Steady d (if b then (if c then granted_now me d o (cast_actions ring d o first from asked.term) says from asked else refused_now me o first says from asked.term) else refused_now me o first says from asked.term)
-    fresh true true = plainly_steady d o (first ++ (action.Vote (new_vote ring asked.term from) (floor_of d o) ∷ [])) _ says (vote_plainly d o first (new_vote ring asked.term from) (floor_of d o) p)
+    fresh true true =
+        plainly_steady d o (first ++ (action.Vote (new_vote ring asked.term from) (floor_of d o) ∷ [])) _ says
+        (vote_plainly d o first (new_vote ring asked.term from) (floor_of d o) p)
     fresh true false = plainly_steady d o first _ says p
     fresh false c = plainly_steady d o first _ says p
 
@@ -154,7 +161,9 @@ request_steady ring me from asked d s c = voter (votes ring me)
     go : (a b : Bool) → nat_lt d.term asked.term ≡ b → Steady d (if a then refused_now me s [] [] from d.term
         else (if b then answer_request ring me d (demoted s) (action.SetTerm asked.term ∷ []) (unknowns s) from asked else answer_request ring me d s [] [] from asked))
     go true b z = quiet_steady d s s _ [] c refl refl refl
-    go false true z = answer_steady ring me d (demoted s) (action.SetTerm asked.term ∷ []) (unknowns s) from asked (record { allowed = (grind (arith, nat_tests, z), tt); same = refl; inside = c.inside; near = λ bad. absurd (let z : false ≡ true = bad in cc) })
+    go false true z =
+        answer_steady ring me d (demoted s) (action.SetTerm asked.term ∷ []) (unknowns s) from asked
+        (record { allowed = (grind (arith, nat_tests, z), tt); same = refl; inside = c.inside; near = λ bad. absurd (let z : false ≡ true = bad in cc) })
     go false false z = answer_steady ring me d s [] [] from asked (record { allowed = tt; same = refl; inside = c.inside; near = c.near })
 
     voter : (b : Bool) → Steady d (if b then voter_answers ring me d s from asked else idle s)

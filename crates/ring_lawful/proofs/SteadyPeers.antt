@@ -5,7 +5,7 @@ use Rattle.ring_model.specs.declared.nodes.Peer.{Peer}
 use Rattle.ring_model.specs.Replication.{heard_among, heard_from, quieter}
 use Rattle.ring_model.specs.Elections.{first_peers}
 use Rattle.ring_model.proofs.OnAnswer.{heard_one}
-use Rattle.ring_lawful.proofs.SteadyAppend.{Near}
+use Rattle.ring_lawful.proofs.Steady.{Near}
 
 -- ---- peers
 pub near_more : (len more : ℕ) (peers : List Peer) → len ≤ more → Near len peers → Near more peers

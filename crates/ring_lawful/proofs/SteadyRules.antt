@@ -35,15 +35,17 @@ use Rattle.ring_model.specs.Elections.{elect}
 use Rattle.ring_model.specs.Steps.{demoted, idle, message, own_entry, stepped, unknowns}
 use Rattle.ring_model.specs.Transfers.{after_ok, ask_transfer, begin_mock, begin_round, cancel, count_answer, is_off, is_old_round, mock_hears, on_answer, on_mock_reply, on_mock_request, on_mock_result, on_mock_start, on_timeout, passes, result_heard, transfer_hears, transfer_refusal, with_answer, with_more}
 use Rattle.ring_model.specs.Writes.{awaits, refused, rotate, rotate_refusal, rotate_step, write, write_entry, write_entry_step, write_refusal, write_txn}
-use Rattle.ring_model.proofs.Lists.{both_true}
+use Rattle.ring_types.proofs.Booleans.{both_true}
 use Rattle.ring_lawful.proofs.Chains.{Chain, Ordered, length_join}
-use Rattle.ring_lawful.proofs.SteadyAppend.{Counted, Steady, append_steady, idle_steady, quiet_steady}
+use Rattle.ring_lawful.proofs.Steady.{Counted, Steady, idle_steady, quiet_steady}
+use Rattle.ring_lawful.proofs.SteadyAppend.{append_steady}
 use Rattle.ring_lawful.proofs.SteadyElections.{advance_steady, elect_steady, own_orderly, raise_steady, reply_steady, request_steady}
 use Rattle.ring_lawful.proofs.SteadyPeers.{near_heard, near_more, near_quieter}
 
 -- ---- a leader's answers and its own entries
 within : (d : Durable) (s : Soft) (answer : AppendReply) → counts d s answer ≡ true → answer.position ≤ length d.log
-within d s answer is = let z = (both_true (is_leader s.role && answer.term == d.term) (nat_le answer.position (length d.log)) is).1 in grind (arith, nat_tests, z)
+within d s answer is =
+    let z = (both_true (is_leader s.role && answer.term == d.term) (nat_le answer.position (length d.log)) is).1 in grind (arith, nat_tests, z)
 
 ack_steady : (ring : Layout) (me from : ℕ) (answer : AppendReply) (d : Durable) (s : Soft) → Ordered d → Counted d s → Steady d (on_ack ring me d s from answer)
 unfolding on_ack
@@ -79,8 +81,10 @@ write_steady ring me client changes d s x c = go (write_refusal ring me d s chan
         let e : Entry = write_entry ring me d changes in
         let n = length_join d.log (e ∷ []) in
         let i = c.inside in
-        advance_steady ring me d (awaits s client e (write_txn ring me d changes).gtid) (action.Prepare (record { opid = e.opid; txn = write_txn ring me d changes }) ∷ action.Append (e ∷ []) ∷ []) [] x
-        (tt, (own_orderly ring me d (payload.Txn (write_txn ring me d changes)) x, tt)) (omega (arith, n, i)) (λ is. near_more (length d.log) _ s.peers (omega (arith, n)) (c.near is))
+        advance_steady ring me d (awaits s client e (write_txn ring me d changes).gtid)
+        (action.Prepare (record { opid = e.opid; txn = write_txn ring me d changes }) ∷ action.Append (e ∷ []) ∷ []) [] x
+        (tt, (own_orderly ring me d (payload.Txn (write_txn ring me d changes)) x, tt)) (omega (arith, n, i))
+        (λ is. near_more (length d.log) _ s.peers (omega (arith, n)) (c.near is))
 
 rotate_steady : (ring : Layout) (me client : ℕ) (d : Durable) (s : Soft) → Ordered d → Counted d s → Steady d (rotate ring me d s client)
 unfolding rotate
@@ -92,7 +96,8 @@ rotate_steady ring me client d s x c = go (rotate_refusal ring me d s)
         let e : Entry = own_entry ring me d payload.Rotate in
         let n = length_join d.log (e ∷ []) in
         let i = c.inside in
-        advance_steady ring me d s (action.Append (e ∷ []) ∷ []) _ x (own_orderly ring me d payload.Rotate x, tt) (omega (arith, n, i)) (λ is. near_more (length d.log) _ s.peers (omega (arith, n)) (c.near is))
+        advance_steady ring me d s (action.Append (e ∷ []) ∷ []) _ x (own_orderly ring me d payload.Rotate x, tt) (omega (arith, n, i))
+        (λ is. near_more (length d.log) _ s.peers (omega (arith, n)) (c.near is))
 
 -- ---- rules without actions
 beat_steady : (ring : Layout) (me : ℕ) (d : Durable) (s : Soft) → Counted d s → Steady d (beat ring me d s)

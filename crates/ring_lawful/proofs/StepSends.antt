@@ -26,7 +26,7 @@ use Rattle.ring_lawful.proofs.SendsHandingOver.{answered_well, asked_well, cance
 use Rattle.ring_lawful.proofs.SendsRelays.{found_near}
 use Rattle.ring_lawful.proofs.Sized.{Sized}
 use Rattle.ring_lawful.proofs.SizedAppends.{found_fits}
-use Rattle.ring_lawful.proofs.SteadyAppend.{Near}
+use Rattle.ring_lawful.proofs.Steady.{Near}
 use Rattle.ring_lawful.proofs.EachStep.{after_size, sized, tells}
 
 -- ---- what it sends
@@ -37,7 +37,8 @@ sends_body ring me from d s (body.RequestVote asked) t z other g = request_well 
 sends_body ring me from d s (body.VoteReply reply) t z other g = reply_well ring me from reply d s
 sends_body ring me from d s (body.Append sent) t z other g =
     let p = (opid_parts sent.prev g.prev).1 in
-    append_well ring me d s sent t.sized.term t.short g.term p (chain_short sent.prev.term sent.prev.position sent.entries (chain_from sent.term sent.prev sent.entries g.follow).0 p g.opids)
+    append_well ring me d s sent t.sized.term t.short g.term p
+    (chain_short sent.prev.term sent.prev.position sent.entries (chain_from sent.term sent.prev sent.entries g.follow).0 p g.opids)
 sends_body ring me from d s (body.AppendReply answer) t z other g = answered_well ring me from answer d s t.sized.term
 sends_body ring me from d s (body.ProxyAppend sent) t z other g = absurd (let w : true ≡ false = other in cc)
 sends_body ring me from d s (body.MockStart sent) t z other g = start_well ring me from sent d s g.0 g.1
@@ -118,8 +119,11 @@ pub every_step_sends_well_formed : EveryStepSendsWellFormed
 every_step_sends_well_formed ring me d s i x g m in_m = go (asks_proxy i) refl
   where
     well : asks_proxy i ≡ false → IsWellFormed ring.schema m
-    well other = well_each ring.schema (step ring me d s i).plan.messages m (sends ring me d s i (tells ring me d s i x g) (counted_from ring me d s x.0).near (after_size ring me d s i x g) other g) in_m
+    well other =
+        well_each ring.schema (step ring me d s i).plan.messages m
+        (sends ring me d s i (tells ring me d s i x g) (counted_from ring me d s x.0).near (after_size ring me d s i x g) other g) in_m
 
     go : (b : Bool) → asks_proxy i ≡ b → IsNearlyWellFormed ring.schema m × (asks_proxy i ≡ false → IsWellFormed ring.schema m)
-    go true is = (near_message ring.schema (step ring me d s i).plan.messages m (given_near ring me d s i (sized ring me d s i x g) is g) in_m, λ other. absurd (let w : true ≡ false = sym is ∙ other in cc))
+    go true is =
+        (near_message ring.schema (step ring me d s i).plan.messages m (given_near ring me d s i (sized ring me d s i x g) is g) in_m, λ other. absurd (let w : true ≡ false = sym is ∙ other in cc))
     go false is = ((well is).0, well)

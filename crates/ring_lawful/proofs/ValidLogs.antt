@@ -11,7 +11,7 @@ use Rattle.ring_types.specs.declared.values.Change.{Change}
 use Rattle.ring_types.specs.declared.values.Txn.{Txn}
 use Rattle.ring_types.specs.Rows.{Tables, after_payload, all_changed, changed, check, empty_tables, is_valid, is_valid_from, payload_is_accepted, rows, rows_from}
 use Rattle.ring_model.specs.Actions.{is_held, pairs_in}
-use Rattle.ring_model.proofs.Lists.{both_true}
+use Rattle.ring_types.proofs.Booleans.{both_true}
 use Rattle.ring_lawful.proofs.Locks.{changed_length, check_alike, keys_stay}
 
 -- ---- how many tables there are
@@ -60,8 +60,10 @@ pub accepted_later : (schema : Schema) (l : List Entry) (a : ℕ) (changes : Lis
 unfolding rows
 accepted_later schema l a changes is free =
     let T : Tables = rows_from schema (empty_tables schema) (take a l) in
-    let all : rows_from schema (empty_tables schema) l ≡ rows_from schema T (drop a l) = ap (rows_from schema (empty_tables schema)) (sym (take-append-drop a l)) ∙ rows_join schema (empty_tables schema) (take a l) (drop a l) in
-    ap (λ (S : Tables). check schema S changes) all ∙ (check_alike schema (rows_from schema T (drop a l)) T changes (rows_length schema T (drop a l)) (keys_stay schema T (drop a l) changes free) ∙ is)
+    let all : rows_from schema (empty_tables schema) l ≡ rows_from schema T (drop a l) =
+    ap (rows_from schema (empty_tables schema)) (sym (take-append-drop a l)) ∙ rows_join schema (empty_tables schema) (take a l) (drop a l) in
+    ap (λ (S : Tables). check schema S changes) all
+    ∙ (check_alike schema (rows_from schema T (drop a l)) T changes (rows_length schema T (drop a l)) (keys_stay schema T (drop a l) changes free) ∙ is)
 
 -- ---- valid lists
 pub none_valid : (schema : Schema) → is_valid schema [] ≡ true
@@ -86,4 +88,5 @@ pub valid_write : (schema : Schema) (l : List Entry) (a : ℕ) (e : Entry) (t : 
     → list_any (is_held (pairs_in (drop a l))) t.changes ≡ false → is_valid schema (l ++ e ∷ []) ≡ true
 unfolding is_valid rows
 valid_write schema l a e t is x ok free =
-    valid_push schema (empty_tables schema) l e x (let y : check schema (rows_from schema (empty_tables schema) l) t.changes ≡ None = accepted_later schema l a t.changes ok free in rw is (rw y refl))
+    valid_push schema (empty_tables schema) l e x
+    (let y : check schema (rows_from schema (empty_tables schema) l) t.changes ≡ None = accepted_later schema l a t.changes ok free in rw is (rw y refl))

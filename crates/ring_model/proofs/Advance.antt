@@ -75,20 +75,24 @@ prepare_path ring id h d pairs (Some e) = go (pair_of e) (is_prepared pairs e.op
 pub engine_path : (ring : Layout) (id : ℕ) (h : History) (n a : ℕ) (d : Durable) (l : List Entry) (pairs : List Pair) → d.log ≡ l → d.applied ≤ a
     → IsSealed ring h d.term (a + n) l → MayReach h id d.term (a + n)
     → EnginePath ring id h d (engine_actions l pairs a n) (a + n)
-engine_path ring id h zero a d l pairs is le s may = record { path = Ends; quiet = refl; after = record { term = refl; votes = refl; log = refl; applied = omega arith } }
+engine_path ring id h zero a d l pairs is le s may =
+    record { path = Ends; quiet = refl; after = record { term = refl; votes = refl; log = refl; applied = omega arith } }
 engine_path ring id h (suc n) a d l pairs is le s may =
     let p = prepare_path ring id h d pairs (entry_at l (suc a)) in
     let e : Durable = all_done d (prepare_entry pairs (entry_at l (suc a))) in
     let same = p.same in
     let sealed : IsSealed ring h e.term (suc a) e.log =
-    subst (λ (t : ℕ). IsSealed ring h t (suc a) e.log) (sym same.term) (subst (λ (w : List Entry). IsSealed ring h d.term (suc a) w) (sym (same.log ∙ is)) (seal_less ring h d.term (a + suc n) (suc a) l (omega arith) s)) in
+    subst (λ (t : ℕ). IsSealed ring h t (suc a) e.log) (sym same.term)
+    (subst (λ (w : List Entry). IsSealed ring h d.term (suc a) w) (sym (same.log ∙ is)) (seal_less ring h d.term (a + suc n) (suc a) l (omega arith) s)) in
     let ih = engine_path ring id h n (suc a) (done e (action.Commit (suc a))) l pairs (same.log ∙ is) (omega arith)
     (subst (λ (t : ℕ). IsSealed ring h t (suc a + n) l) (sym same.term) (seal_less ring h d.term (a + suc n) (suc a + n) l (omega arith) s))
     (subst (λ (t : ℕ). MayReach h id t (suc a + n)) (sym same.term) (reach_less h id d.term (a + suc n) (suc a + n) (omega arith) may)) in
     let j = done_join d (prepare_entry pairs (entry_at l (suc a))) (action.Commit (suc a) ∷ engine_actions l pairs (suc a) n) in
     record {
-      path = path_join ring id h h h d (prepare_entry pairs (entry_at l (suc a))) (action.Commit (suc a) ∷ engine_actions l pairs (suc a) n) p.path (Goes_on (Applies (suc a) refl sealed (subst (λ (t : ℕ). MayReach h id t (suc a)) (sym same.term) (reach_less h id d.term (a + suc n) (suc a) (omega arith) may)) refl) ih.path);
-      quiet = quiet_join ring id h h h d (prepare_entry pairs (entry_at l (suc a))) (action.Commit (suc a) ∷ engine_actions l pairs (suc a) n) p.path (Goes_on (Applies (suc a) refl sealed (subst (λ (t : ℕ). MayReach h id t (suc a)) (sym same.term) (reach_less h id d.term (a + suc n) (suc a) (omega arith) may)) refl) ih.path) p.quiet ih.quiet;
+      path = path_join ring id h h h d (prepare_entry pairs (entry_at l (suc a))) (action.Commit (suc a) ∷ engine_actions l pairs (suc a) n) p.path
+          (Goes_on (Applies (suc a) refl sealed (subst (λ (t : ℕ). MayReach h id t (suc a)) (sym same.term) (reach_less h id d.term (a + suc n) (suc a) (omega arith) may)) refl) ih.path);
+      quiet = quiet_join ring id h h h d (prepare_entry pairs (entry_at l (suc a))) (action.Commit (suc a) ∷ engine_actions l pairs (suc a) n) p.path
+          (Goes_on (Applies (suc a) refl sealed (subst (λ (t : ℕ). MayReach h id t (suc a)) (sym same.term) (reach_less h id d.term (a + suc n) (suc a) (omega arith) may)) refl) ih.path) p.quiet ih.quiet;
       after = subst (λ (w : Durable). Followed d w (a + suc n)) (sym j)
           (record { term = ih.after.term ∙ same.term; votes = ih.after.votes ∙ same.votes; log = ih.after.log ∙ same.log; applied = omega (arith, ih.after.applied) });
     }
@@ -98,7 +102,8 @@ pub follow_path : (ring : Layout) (me id : ℕ) (h : History) (d : Durable) (c :
 follow_path ring me id h d c le s may = go (runs_engine ring me) refl
   where
     go : (b : Bool) → runs_engine ring me ≡ b → EnginePath ring id h d (follow_actions ring me d c) c
-    go true is = rw is (let x = engine_path ring id h (c - d.applied) d.applied d d.log d.prepared refl (omega arith) (let e : d.applied + (c - d.applied) ≡ c = omega arith in rw e s)
+    go true is =
+        rw is (let x = engine_path ring id h (c - d.applied) d.applied d d.log d.prepared refl (omega arith) (let e : d.applied + (c - d.applied) ≡ c = omega arith in rw e s)
         (reach_less h id d.term c (d.applied + (c - d.applied)) (omega arith) may) in
         record { path = x.path; quiet = x.quiet; after = record { term = x.after.term; votes = x.after.votes; log = x.after.log; applied = omega (arith, x.after.applied) } })
     go false is = rw is (record { path = Ends; quiet = refl; after = record { term = refl; votes = refl; log = refl; applied = le } })
@@ -132,7 +137,9 @@ holder_is p (x ∷ peers) v c = go (nat_le p x.matched) refl c (holder_is p peer
     go : (b : Bool) → nat_le p x.matched ≡ b → Contains (holders p (x ∷ peers)) v
         → (Contains (holders p peers) v → (y : Peer) × Contains peers y × (y.node ≡ v) × (p ≤ y.matched))
         → (y : Peer) × Contains (x ∷ peers) y × (y.node ≡ v) × (p ≤ y.matched)
-    go true is c ih = let d = rw is at c in elim (cons_cases x.node (holders p peers) v d) [ inl here ↦ (x, (zero, omega arith, refl), here, grind (arith, nat_tests, is)) | inr there ↦ more (ih there) ]
+    go true is c ih =
+        let d = rw is at c in
+        elim (cons_cases x.node (holders p peers) v d) [ inl here ↦ (x, (zero, omega arith, refl), here, grind (arith, nat_tests, is)) | inr there ↦ more (ih there) ]
     go false is c ih = let d = rw is at c in more (ih d)
 
 count_sealed : (ring : Layout) (h : History) (id : ℕ) (d : Durable) (s : Soft) → IsHistory ring h → IsNode ring h id d → IsLeader h id d s

@@ -83,8 +83,16 @@ beat_one ring h id d s p k n r role le = go (is_proxied ring id s.peers p.node)
 
     go : (b : Bool) → IsSayable ring h id (if b then send_proxied id (proxy_id ring p.node) d s p.node (opid_before d.log p.next) (batch_of ring.schema (drop (p.next - 1) d.log))
         else send_direct id d s p.node (opid_before d.log p.next) (batch_of ring.schema (drop (p.next - 1) d.log)))
-    go true = record { sent = proxied_sent ring h id (proxy_id ring p.node) p.node (batch_length ring.schema batch_limit group_limit (drop (p.next - 1) d.log)) (p.next - 1) d s k n r role (omega arith); from = refl; never = λ u v bad. absurd cc }
-    go false = record { sent = direct_sent ring h id p.node (batch_length ring.schema batch_limit group_limit (drop (p.next - 1) d.log)) (p.next - 1) d s k n r role (omega arith); from = refl; never = λ u v bad. absurd cc }
+    go true = record {
+      sent = proxied_sent ring h id (proxy_id ring p.node) p.node (batch_length ring.schema batch_limit group_limit (drop (p.next - 1) d.log)) (p.next - 1) d s k n r role (omega arith);
+      from = refl;
+      never = λ u v bad. absurd cc;
+    }
+    go false = record {
+      sent = direct_sent ring h id p.node (batch_length ring.schema batch_limit group_limit (drop (p.next - 1) d.log)) (p.next - 1) d s k n r role (omega arith);
+      from = refl;
+      never = λ u v bad. absurd cc;
+    }
 
 pub beat_row : (ring : Layout) (h : History) (id : ℕ) (d : Durable) (s : Soft) → IsHistory ring h → IsNode ring h id d → IsRunning ring h id d s
     → IsRow ring h id d s (beat ring id d s)

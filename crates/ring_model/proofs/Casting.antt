@@ -12,7 +12,8 @@ use Rattle.ring_types.specs.Logs.{last, term_at}
 use Rattle.ring_model.specs.declared.nodes.Durable.{Durable}
 use Rattle.ring_model.specs.Actions.{done}
 use Rattle.ring_model.specs.declared.effects.Action.TheVariants as action
-use Rattle.ring_model.proofs.Lists.{filter_keeps, filter_of, lt_test}
+use Rattle.ring_types.proofs.Booleans.{lt_true}
+use Rattle.ring_model.proofs.Lists.{filter_keeps, filter_of}
 use Rattle.ring_model.proofs.Invariant.{As_leader, As_new, By_reply, Cast, Cut_by, HasAcked, History, IsBookedLog, IsCast, IsDropped, IsHistory, IsNode, IsSealed, Kept, Newer, Nothing_yet, Overruled, Sealed_at, VoteKeeps}
 use Rattle.ring_model.proofs.Growth.{Grows, agree_term, cast_stays, chosen_stays, grow_log, grow_sealed, sent_stays, won_stays}
 
@@ -105,7 +106,7 @@ module _ (ring : Layout) (h : History) (id : ℕ) (d : Durable) (c : Cast) (floo
   vote_found e in_e by = elim (n.dropped e in_e by) [
     | inl kept ↦ elim (cases_lt floor e.vote.term) [
       | inl above ↦ inl (Contains-append_left (filter (λ (w : Vote). nat_lt floor w.term) d.votes) (c.vote ∷ []) e.vote
-          (filter_keeps (λ (w : Vote). nat_lt floor w.term) d.votes e.vote kept (lt_test floor e.vote.term above)))
+          (filter_keeps (λ (w : Vote). nat_lt floor w.term) d.votes e.vote kept (lt_true floor e.vote.term above)))
       | inr low ↦ inr (record {
         at = may.floor_at;
         sealed = grow_sealed ring id h (with_cast h c) cast_grows d.term d.term may.floor_at d.log (omega arith) may.floor_sealed;

@@ -49,13 +49,16 @@ names_other ring me from sent is = other_is ring me sent.leader (second_other (i
 body_row : (ring : Layout) (h : History) (m : Message) (id : ℕ) (d : Durable) (s : Soft) (b : Body) → IsHistory ring h → IsNode ring h id d
     → IsRunning ring h id d s
     → Contains h.messages m → m.to ≡ id → m.body ≡ b → is_foreign_body ring id m.from b ≡ false → IsRow ring h id d s (body_step ring id d s m.from b)
-body_row ring h m id d s (body.RequestVote asked) k n r in_m to is own = request_row ring h id m.from asked d s k n r (subst (λ (b : Body). IsSent ring h m.from m.to b) is (k.sent m in_m))
+body_row ring h m id d s (body.RequestVote asked) k n r in_m to is own =
+    request_row ring h id m.from asked d s k n r (subst (λ (b : Body). IsSent ring h m.from m.to b) is (k.sent m in_m))
 body_row ring h m id d s (body.VoteReply reply) k n r in_m to is own =
-    reply_row ring h id m.from reply d s k n r (subst (λ (v : ℕ). IsSent ring h m.from v (body.VoteReply reply)) to (subst (λ (b : Body). IsSent ring h m.from m.to b) is (k.sent m in_m)))
+    reply_row ring h id m.from reply d s k n r
+    (subst (λ (v : ℕ). IsSent ring h m.from v (body.VoteReply reply)) to (subst (λ (b : Body). IsSent ring h m.from m.to b) is (k.sent m in_m)))
 body_row ring h m id d s (body.Append sent) k n r in_m to is own =
     append_row ring h id sent d s k n r (subst (λ (b : Body). IsSent ring h m.from m.to b) is (k.sent m in_m)) (names_other ring id m.from sent own)
 body_row ring h m id d s (body.AppendReply answer) k n r in_m to is own = answered_row ring h m id m.from answer d s k n r in_m refl is
-body_row ring h m id d s (body.ProxyAppend sent) k n r in_m to is own = relay_row ring h id m.from sent d s k n r (subst (λ (b : Body). IsSent ring h m.from m.to b) is (k.sent m in_m))
+body_row ring h m id d s (body.ProxyAppend sent) k n r in_m to is own =
+    relay_row ring h id m.from sent d s k n r (subst (λ (b : Body). IsSent ring h m.from m.to b) is (k.sent m in_m))
 body_row ring h m id d s (body.MockStart sent) k n r in_m to is own = mock_start_row ring h id m.from sent d s k n r
 body_row ring h m id d s (body.MockRequest sent) k n r in_m to is own = mock_request_row ring h id m.from sent d s k n r
 body_row ring h m id d s (body.MockReply sent) k n r in_m to is own = mock_reply_row ring h id m.from sent d s k n r
@@ -94,7 +97,8 @@ step_row ring h id d s (input.Cancel client) k n r given = cancel_row ring h id 
 body_whole : (ring : Layout) (h : History) (m : Message) (id : ℕ) (d : Durable) (s : Soft) (b : Body) → IsHistory ring h → IsNode ring h id d
     → IsRunning ring h id d s
     → Contains h.messages m → m.body ≡ b → is_foreign_body ring id m.from b ≡ false → body_tear d s b ≡ None
-body_whole ring h m id d s (body.Append sent) k n r in_m is own = append_tears_not ring h id sent d s k n r (subst (λ (b : Body). IsSent ring h m.from m.to b) is (k.sent m in_m)) (names_other ring id m.from sent own)
+body_whole ring h m id d s (body.Append sent) k n r in_m is own =
+    append_tears_not ring h id sent d s k n r (subst (λ (b : Body). IsSent ring h m.from m.to b) is (k.sent m in_m)) (names_other ring id m.from sent own)
 body_whole ring h m id d s (body.RequestVote asked) k n r in_m is own = refl
 body_whole ring h m id d s (body.VoteReply reply) k n r in_m is own = refl
 body_whole ring h m id d s (body.AppendReply answer) k n r in_m is own = refl

@@ -47,7 +47,9 @@ first_matched id n (m ∷ members) x c = go (m.id == id) refl c (first_matched i
   where
     go : (b : Bool) → (m.id == id) ≡ b → Contains (first_peers id n (m ∷ members)) x → (Contains (first_peers id n members) x → x.matched ≡ 0) → x.matched ≡ 0
     go true is c ih = let d = rw is at c in ih d
-    go false is c ih = let d = rw is at c in elim (cons_cases (let w : Peer = record { node = m.id; matched = 0; next = n; silent = 0 } in w) (first_peers id n members) x d) [ inl here ↦ ap (λ (w : Peer). w.matched) (sym here) | inr there ↦ ih there ]
+    go false is c ih =
+        let d = rw is at c in
+        elim (cons_cases (let w : Peer = record { node = m.id; matched = 0; next = n; silent = 0 } in w) (first_peers id n members) x d) [ inl here ↦ ap (λ (w : Peer). w.matched) (sym here) | inr there ↦ ih there ]
 
 first_next : (id n : ℕ) (members : List Member) (x : Peer) → Contains (first_peers id n members) x → x.next ≡ n
 first_next id n [] x c = absurd (omega (arith, c.1))
@@ -55,7 +57,9 @@ first_next id n (m ∷ members) x c = go (m.id == id) refl c (first_next id n me
   where
     go : (b : Bool) → (m.id == id) ≡ b → Contains (first_peers id n (m ∷ members)) x → (Contains (first_peers id n members) x → x.next ≡ n) → x.next ≡ n
     go true is c ih = let d = rw is at c in ih d
-    go false is c ih = let d = rw is at c in elim (cons_cases (let w : Peer = record { node = m.id; matched = 0; next = n; silent = 0 } in w) (first_peers id n members) x d) [ inl here ↦ ap (λ (w : Peer). w.next) (sym here) | inr there ↦ ih there ]
+    go false is c ih =
+        let d = rw is at c in
+        elim (cons_cases (let w : Peer = record { node = m.id; matched = 0; next = n; silent = 0 } in w) (first_peers id n members) x d) [ inl here ↦ ap (λ (w : Peer). w.next) (sym here) | inr there ↦ ih there ]
 
 pub seal_longer : (ring : Layout) (id : ℕ) (h g : History) (u c : ℕ) (l r : List Entry) → Grows id h g → IsSealed ring h u c l → IsSealed ring g u c (l ++ r)
 seal_longer ring id h g u c l r x s = elim (grow_sealed ring id h g x u u c l (omega arith) s) [
@@ -87,7 +91,8 @@ lead_row ring h m id d o s first says grants p before was k n x won sealed le =
       matched = λ y in_y some. absurd (omega (arith, first_matched id (suc (length e.log)) ring.members y in_y));
       next = λ y in_y. (omega (arith, first_matched id (suc (length e.log)) ring.members y in_y, first_next id (suc (length e.log)) ring.members y in_y), omega (arith, first_next id (suc (length e.log)) ring.members y in_y, length-append e.log (noop ∷ [])));
     } in
-    advance_row ring h led id d o t (first ++ (action.Append (noop ∷ []) ∷ [])) says (path_join ring id h m led d first (action.Append (noop ∷ []) ∷ []) p (Goes_on (Leads el noop refl may refl) Ends))
+    advance_row ring h led id d o t (first ++ (action.Append (noop ∷ []) ∷ [])) says
+    (path_join ring id h m led d first (action.Append (noop ∷ []) ∷ []) p (Goes_on (Leads el noop refl may refl) Ends))
     after.history
     (subst (λ (w : Durable). IsNode ring led id w) (sym j) after.node)
     refl
@@ -110,7 +115,17 @@ ask_row ring h m g id d o s first says grants asks p before was k n x sends y se
     go : (b : Bool) → has_won ring id (all_done d first) grants ≡ b
         → IsRow ring h id d o (if b then lead ring id d s first says grants else stepped first asks says (record s { role = Candidate; grants = grants }))
     go true is = lead_row ring h m id d o s first says grants p before was k n x is sealed le
-    go false is = record { acted = m; path = p; sent = g; sends = sends; role = y; sealed = sealed_after; applied = le; reaches = inl low; holding = Leads_not refl (before_quiet ring id h m d first p before) }
+    go false is = record {
+      acted = m;
+      path = p;
+      sent = g;
+      sends = sends;
+      role = y;
+      sealed = sealed_after;
+      applied = le;
+      reaches = inl low;
+      holding = Leads_not refl (before_quiet ring id h m d first p before);
+    }
 
 -- ---- the requests
 record Asked (ring : Layout) (h : History) (id : ℕ) (d : Durable) (grants : List Grant) (c : ℕ) (ms : List Message) : Type 0 where
@@ -126,7 +141,8 @@ requests_sent : (ring : Layout) (h : History) (id t : ℕ) (q : Opid) (d : Durab
     → last d.log ≡ q → IsCandidate h id d grants → IsSealed ring h d.term c d.log
     → Asked ring h id d grants c (requests id t q members)
 requests_sent ring h id t q d grants c [] is_t is_q x s = record { sent = h; sends = Sent_all; candidate = x; sealed = s }
-requests_sent ring h id t q d grants c (m ∷ members) is_t is_q x s = go (m.id == id) refl (is_voter m.kind) refl (requests_sent ring h id t q d grants c members is_t is_q x s)
+requests_sent ring h id t q d grants c (m ∷ members) is_t is_q x s =
+    go (m.id == id) refl (is_voter m.kind) refl (requests_sent ring h id t q d grants c members is_t is_q x s)
     (requests_sent ring (with_message h (request_to id m.id t q)) id t q d grants c members is_t is_q
     (candidate_sent h (request_to id m.id t q) id d grants x) (sealed_sent ring h (request_to id m.id t q) d.term c d.log s))
   where
@@ -137,7 +153,8 @@ requests_sent ring h id t q d grants c (m ∷ members) is_t is_q x s = go (m.id 
     go false y false z same more = rw (y, z) same
     go false y true z same more = rw (y, z) (record {
       sent = more.sent;
-      sends = Sends_on {m = request_to id m.id t q} (let w = x.self in (w.0, w.1, w.2, w.3, w.4 ∙ is_t, w.5 ∙ is_q)) (record { from = refl; answers = λ u v bad. absurd cc }) more.sends;
+      sends = Sends_on {m = request_to id m.id t q} (let w = x.self in (w.0, w.1, w.2, w.3, w.4 ∙ is_t, w.5 ∙ is_q))
+          (record { from = refl; answers = λ u v bad. absurd cc }) more.sends;
       candidate = more.candidate;
       sealed = more.sealed;
     })
@@ -162,7 +179,8 @@ stand_row ring h id d s was k n r =
       floor_below = omega arith;
     } in
     let m : History = with_cast h c in
-    let p : Path ring id h d first m = Goes_on (Raises t refl (omega arith) (omega (arith, r.applied, r.chosen)) refl) (Goes_on (Votes c (floor_of d s) refl may refl) Ends) in
+    let p : Path ring id h d first m =
+    Goes_on (Raises t refl (omega arith) (omega (arith, r.applied, r.chosen)) refl) (Goes_on (Votes c (floor_of d s) refl may refl) Ends) in
     let a = path_keeps ring id h m d first k n p in
     let e : Durable = all_done d first in
     let own : Grant = own_grant id e in
@@ -178,7 +196,8 @@ stand_row ring h id d s was k n r =
     } in
     let sealed : IsSealed ring m t s.commit d.log = grow_sealed ring id h m a.grows d.term t s.commit d.log (omega arith) r.sealed in
     let z = requests_sent ring m id t (last d.log) e (own ∷ []) s.commit ring.members refl refl x sealed in
-    ask_row ring h m z.sent id d s (demoted s) first (unknowns s) (own ∷ []) (requests id t (last d.log) ring.members) (Goes_on (Raises t refl (omega arith) (omega (arith, r.applied, r.chosen)) refl) (Goes_on (Votes c (floor_of d s) refl may refl) Ends)) tt
+    ask_row ring h m z.sent id d s (demoted s) first (unknowns s) (own ∷ []) (requests id t (last d.log) ring.members)
+    (Goes_on (Raises t refl (omega arith) (omega (arith, r.applied, r.chosen)) refl) (Goes_on (Votes c (floor_of d s) refl may refl) Ends)) tt
     was a.history a.node x z.sends z.candidate sealed z.sealed r.applied r.chosen
 
 leader_stands_not : (ring : Layout) (id : ℕ) (d : Durable) (s : Soft) → may_elect ring id d s ≡ true → is_leader s.role ≡ false

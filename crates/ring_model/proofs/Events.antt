@@ -29,7 +29,8 @@ use Rattle.ring_model.proofs.Restarts.{partly}
 -- ---- what a task does
 restart_cut : (d : Durable) (count : ℕ) → SameLog d (all_done d (take count (restart_actions d)))
 restart_cut d =
-    partly (SameLog d) d (record { term = refl; votes = refl; log = refl; applied = refl }) (λ opids is. record { term = refl; votes = refl; log = refl; applied = refl })
+    partly (SameLog d) d (record { term = refl; votes = refl; log = refl; applied = refl })
+    (λ opids is. record { term = refl; votes = refl; log = refl; applied = refl })
 
 handled_over : (ring : Layout) (w : WorldState) (h : History) (id : ℕ) (i : Input) (completion : Completion) (o : Option Soft) → (w.nodes id).soft ≡ o
     → IsWorld ring w h → IsGiven w.messages id i
@@ -39,7 +40,8 @@ handled_over ring w h id i Whole (Some s) up k given =
     let d = (w.nodes id).durable in
     let st = step ring id d s i in
     let x = whole_keeps ring w h id s st k (step_row ring h id d s i k.history (k.nodes id) (k.running id s up) (subst (λ (ms : List Message). IsGiven ms id i) (sym k.messages) given)) in
-    by_turn ring w (ended w id d st Whole) h id (Handle i) (held_by id d s st Whole) st.plan.actions x (λ t. told_by_step ring w h id st (held_by id d s st Whole) st.plan.actions x (step_tells ring id d s i (t.pending id s up)) t)
+    by_turn ring w (ended w id d st Whole) h id (Handle i) (held_by id d s st Whole) st.plan.actions x
+    (λ t. told_by_step ring w h id st (held_by id d s st Whole) st.plan.actions x (step_tells ring id d s i (t.pending id s up)) t)
     (λ l n is. (s, up, given, (n, is)))
 handled_over ring w h id i (Cut count) (Some s) up k given =
     let d = (w.nodes id).durable in
@@ -73,24 +75,29 @@ turn_over : (ring : Layout) (w : WorldState) (h : History) (id : ℕ) (task : Ta
 turn_over ring w h id (Handle i) completion k given = handled_over ring w h id i completion (w.nodes id).soft refl k given
 turn_over ring w h id GoDown completion k given =
     let x = down_keeps ring w h id (w.nodes id).durable [] (record { term = refl; votes = refl; log = refl; applied = refl }) k in
-    subst (λ (e : List Election). Carried ring w (turn ring w id GoDown completion) h e (Some (id, GoDown))) (sym (down_holds_none ring id (w.nodes id).durable (w.nodes id).soft completion))
+    subst (λ (e : List Election). Carried ring w (turn ring w id GoDown completion) h e (Some (id, GoDown)))
+    (sym (down_holds_none ring id (w.nodes id).durable (w.nodes id).soft completion))
     (by_turn ring w (turn ring w id GoDown completion) h id GoDown [] [] x (told_by_silence ring w h id (record { durable = (w.nodes id).durable; soft = None }) [] [] [] x (λ o so. absurd cc)) (no_way (w.nodes id).durable))
 turn_over ring w h id ComeUp Whole k given =
     let x = restart_keeps ring w h id k in
-    subst (λ (e : List Election). Carried ring w (turn ring w id ComeUp Whole) h e (Some (id, ComeUp))) (sym (up_holds_none ring id (w.nodes id).durable (w.nodes id).soft Whole))
+    subst (λ (e : List Election). Carried ring w (turn ring w id ComeUp Whole) h e (Some (id, ComeUp)))
+    (sym (up_holds_none ring id (w.nodes id).durable (w.nodes id).soft Whole))
     (by_turn ring w (turn ring w id ComeUp Whole) h id ComeUp [] [] x
     (told_by_silence ring w h id (record { durable = recover (w.nodes id).durable; soft = Some (fresh_soft (w.nodes id).durable) }) [] [] [] x
     (λ o so. let is : fresh_soft (w.nodes id).durable ≡ o = cc in ap (λ (s : Soft). s.pending) (sym is))) (no_way (w.nodes id).durable))
 turn_over ring w h id ComeUp (Cut count) k given =
     let e : Durable = all_done (w.nodes id).durable (take count (restart_actions (w.nodes id).durable)) in
     let x = down_keeps ring w h id e (count ∷ []) (restart_cut (w.nodes id).durable count) k in
-    subst (λ (e : List Election). Carried ring w (turn ring w id ComeUp (Cut count)) h e (Some (id, ComeUp))) (sym (up_holds_none ring id (w.nodes id).durable (w.nodes id).soft (Cut count)))
+    subst (λ (e : List Election). Carried ring w (turn ring w id ComeUp (Cut count)) h e (Some (id, ComeUp)))
+    (sym (up_holds_none ring id (w.nodes id).durable (w.nodes id).soft (Cut count)))
     (by_turn ring w (turn ring w id ComeUp (Cut count)) h id ComeUp [] [] x (told_by_silence ring w h id (record { durable = e; soft = None }) (count ∷ []) [] [] x (λ o so. absurd cc)) (no_way (w.nodes id).durable))
 turn_over ring w h id Rest Whole k given =
-    subst (λ (e : List Election). Carried ring w (passed w) h e (Some (id, Rest))) (sym (rest_holds_none ring id (w.nodes id).durable (w.nodes id).soft Whole)) (passed_over ring w h (Some (id, Rest)) k)
+    subst (λ (e : List Election). Carried ring w (passed w) h e (Some (id, Rest)))
+    (sym (rest_holds_none ring id (w.nodes id).durable (w.nodes id).soft Whole)) (passed_over ring w h (Some (id, Rest)) k)
 turn_over ring w h id Rest (Cut count) k given =
     let x = down_keeps ring w h id (w.nodes id).durable (count ∷ []) (record { term = refl; votes = refl; log = refl; applied = refl }) k in
-    subst (λ (e : List Election). Carried ring w (turn ring w id Rest (Cut count)) h e (Some (id, Rest))) (sym (rest_holds_none ring id (w.nodes id).durable (w.nodes id).soft (Cut count)))
+    subst (λ (e : List Election). Carried ring w (turn ring w id Rest (Cut count)) h e (Some (id, Rest)))
+    (sym (rest_holds_none ring id (w.nodes id).durable (w.nodes id).soft (Cut count)))
     (by_turn ring w (turn ring w id Rest (Cut count)) h id Rest [] [] x (told_by_silence ring w h id (record { durable = (w.nodes id).durable; soft = None }) (count ∷ []) [] [] x (λ o so. absurd cc)) (no_way (w.nodes id).durable))
 
 -- only members act
@@ -119,7 +126,8 @@ given_to_over : (ring : Layout) (w : WorldState) (h : History) (id : ℕ) (compl
     → message_at w.messages number ≡ o → IsWorld ring w h
     → Carried ring w (given_to ring w id completion o) h (acted_elections ring w completion (acts_to id o)) (acts_to id o)
 given_to_over ring w h id completion number None is k = member_over ring w h id Rest completion k tt
-given_to_over ring w h id completion number (Some m) is k = member_over ring w h m.to (Handle (input.Deliver m)) completion k (in_number w.messages number m is, refl)
+given_to_over ring w h id completion number (Some m) is k =
+    member_over ring w h m.to (Handle (input.Deliver m)) completion k (in_number w.messages number m is, refl)
 
 moved_way : (ring : Layout) (w : WorldState) (id number : ℕ) (acted : Option (ℕ × Task)) (l : List Entry) → OnWay ring (moved w id number) acted l
     → OnWay ring w acted l
@@ -173,7 +181,8 @@ skipped_over : (ring : Layout) (w : WorldState) (h : History) (id : ℕ) (comple
     → Carried ring w (skipped ring w id completion o) h (acted_elections ring w completion (Some (id, Rest))) (Some (id, Rest))
 skipped_over ring w h id completion None k = member_over ring w h id Rest completion k tt
 skipped_over ring w h id completion (Some number) k =
-    over_moved ring w (skipped ring w id completion (Some number)) h id number completion (Some (id, Rest)) (member_over ring (moved w id number) h id Rest completion (moved_world ring w h id number k) tt)
+    over_moved ring w (skipped ring w id completion (Some number)) h id number completion (Some (id, Rest))
+    (member_over ring (moved w id number) h id Rest completion (moved_world ring w h id number k) tt)
 
 at_over : (ring : Layout) (w : WorldState) (h : History) (id : ℕ) (i : Input) (completion : Completion) → IsWorld ring w h
     → Carried ring w (at_node ring w id i completion) h (acted_elections ring w completion (acts_at id i)) (acts_at id i)
@@ -205,7 +214,8 @@ task_whole : (ring : Layout) (w : WorldState) (h : History) (id : ℕ) (task : T
     → MayTake w.messages id task → tear_at ring id (w.nodes id).durable o task ≡ None
 task_whole ring w h id (Handle i) None up k given = refl
 task_whole ring w h id (Handle i) (Some s) up k given =
-    step_whole ring h id (w.nodes id).durable s i k.history (k.nodes id) (k.running id s up) (subst (λ (ms : List Message). IsGiven ms id i) (sym k.messages) given)
+    step_whole ring h id (w.nodes id).durable s i k.history (k.nodes id) (k.running id s up)
+    (subst (λ (ms : List Message). IsGiven ms id i) (sym k.messages) given)
 task_whole ring w h id GoDown None up k given = refl
 task_whole ring w h id GoDown (Some s) up k given = refl
 task_whole ring w h id ComeUp None up k given = refl

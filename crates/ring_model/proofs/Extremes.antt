@@ -14,7 +14,8 @@ use Rattle.ring_model.specs.Steps.{greatest}
 -- ---- a batch
 pub batch_is_longest : BatchIsLongest
 batch_is_longest schema zero bytes entries = record { inside = omega arith; few = omega arith; fits = omega arith; longest = λ a b. absurd (omega (arith, b)) }
-batch_is_longest schema (suc count) bytes [] = record { inside = omega arith; few = omega arith; fits = omega arith; longest = λ a b. absurd (omega (arith, a)) }
+batch_is_longest schema (suc count) bytes [] =
+    record { inside = omega arith; few = omega arith; fits = omega arith; longest = λ a b. absurd (omega (arith, a)) }
 batch_is_longest schema (suc count) bytes (e ∷ entries) = go (nat_le (group_size schema e.payload) bytes) refl (batch_is_longest schema count (bytes - group_size schema e.payload) entries)
   where
     go : (b : Bool) → nat_le (group_size schema e.payload) bytes ≡ b
@@ -25,7 +26,12 @@ batch_is_longest schema (suc count) bytes (e ∷ entries) = go (nat_le (group_si
         let a = rest.inside in
         let b = rest.few in
         let c = rest.fits in
-        record { inside = omega (arith, a); few = omega (arith, b); fits = omega (arith, small, c); longest = λ x y. (let z = rest.longest (omega (arith, x)) (omega (arith, y)) in omega (arith, small, z)) }
+        record {
+          inside = omega (arith, a);
+          few = omega (arith, b);
+          fits = omega (arith, small, c);
+          longest = λ x y. (let z = rest.longest (omega (arith, x)) (omega (arith, y)) in omega (arith, small, z));
+        }
     go false is rest =
         let large : bytes < group_size schema e.payload = grind (arith, nat_tests, is) in
         record { inside = omega arith; few = omega arith; fits = omega arith; longest = λ x y. omega (arith, large) }
@@ -81,10 +87,18 @@ greatest_passes test floor (suc n) = go (nat_le (suc n) floor) refl (test (suc n
     wider m (inr x) = inr (x.0, omega (arith, x.1), x.2)
 
     one_more : (m k : ℕ) → ((j : ℕ) → m < j → j ≤ n → test j ≡ false) → test (suc n) ≡ false → m < k → k ≤ suc n → test k ≡ false
-    one_more m k none fails above top = elim (cases_eq k (suc n)) [ inl here ↦ subst (λ (j : ℕ). test j ≡ false) (sym here) fails | inr other ↦ none k above (omega (arith, other, top)) ]
+    one_more m k none fails above top =
+        elim (cases_eq k (suc n)) [ inl here ↦ subst (λ (j : ℕ). test j ≡ false) (sym here) fails | inr other ↦ none k above (omega (arith, other, top)) ]
 
     go : (a : Bool) → nat_le (suc n) floor ≡ a → (b : Bool) → test (suc n) ≡ b → IsGreatest test floor n (greatest test floor n)
         → IsGreatest test floor (suc n) (if a then floor else (if b then suc n else greatest test floor n))
-    go true x b y rest = record { reached = inl refl; none_above = λ k above top. absurd (let z : suc n ≤ floor = grind (arith, nat_tests, x) in omega (arith, z, above, top)) }
-    go false x true y rest = record { reached = inr ((let z : floor < suc n = grind (arith, nat_tests, x) in z), omega arith, y); none_above = λ k above top. absurd (omega (arith, above, top)) }
-    go false x false y rest = record { reached = wider (greatest test floor n) rest.reached; none_above = λ k above top. one_more (greatest test floor n) k rest.none_above y above top }
+    go true x b y rest =
+        record { reached = inl refl; none_above = λ k above top. absurd (let z : suc n ≤ floor = grind (arith, nat_tests, x) in omega (arith, z, above, top)) }
+    go false x true y rest = record {
+      reached = inr ((let z : floor < suc n = grind (arith, nat_tests, x) in z), omega arith, y);
+      none_above = λ k above top. absurd (omega (arith, above, top));
+    }
+    go false x false y rest = record {
+      reached = wider (greatest test floor n) rest.reached;
+      none_above = λ k above top. one_more (greatest test floor n) k rest.none_above y above top;
+    }

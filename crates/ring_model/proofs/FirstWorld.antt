@@ -46,12 +46,14 @@ first_holds ring valid = record {
     applied = Nothing_yet refl;
   };
   running = λ id s up. let is : fresh_soft empty_durable ≡ s = cc in
-      subst (λ (o : Soft). IsRunning ring first_history id empty_durable o) is (record { sealed = Nothing_yet refl; chosen = omega arith; applied = omega arith; role = tt });
+      subst (λ (o : Soft). IsRunning ring first_history id empty_durable o) is
+      (record { sealed = Nothing_yet refl; chosen = omega arith; applied = omega arith; role = tt });
   applied = λ id. omega arith;
 }
 
 pub first_told : (ring : Layout) → HoldsTold ring first_world first_history
 first_told ring = record {
-  pending = λ id s up. let is : fresh_soft empty_durable ≡ s = cc in subst (λ (o : Soft). KeepsPending [] o) is (record { none = λ same. refl; each = λ p in_p. absurd (none_contained p in_p) });
+  pending = λ id s up. let is : fresh_soft empty_durable ≡ s = cc in subst (λ (o : Soft). KeepsPending [] o) is
+      (record { none = λ same. refl; each = λ p in_p. absurd (none_contained p in_p) });
   told = λ gtid opid term y. absurd (none_contained y.0 y.1);
 }

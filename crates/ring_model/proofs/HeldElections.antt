@@ -76,7 +76,8 @@ unfolding path_join
 quiet_join ring id h g f d [] b Ends q x y = y
 quiet_join ring id h g f d (s ∷ a) b (Goes_on {g = m} move p) q x y =
     let two = quiet_cut_go (elects ring id h m d s move) (elected ring id m g (done d s) a p) x in
-    ap (λ (w : List Election). w ++ elected ring id m f (done d s) (a ++ b) (path_join ring id m g f (done d s) a b p q)) two.0 ∙ quiet_join ring id m g f (done d s) a b p q two.1 y
+    ap (λ (w : List Election). w ++ elected ring id m f (done d s) (a ++ b) (path_join ring id m g f (done d s) a b p q)) two.0
+    ∙ quiet_join ring id m g f (done d s) a b p q two.1 y
 
 -- what comes after an election holds none
 pub held_join : (ring : Layout) (id : ℕ) (h g f : History) (d : Durable) (a b : List Action) (grants : List Grant) (p : Path ring id h d a g)
@@ -134,7 +135,8 @@ election_is e id d grants t n b g =
 
 append_found : (id : ℕ) (grants : List Grant) (d : Durable) (a : Action) (x : Entry) (rest : List Action) → a ≡ action.Append (x ∷ [])
     → first_append id grants d (a ∷ rest) ≡ record { term = d.term; node = id; base = d.log; grants = grants } ∷ []
-append_found id grants d a x rest is = subst (λ (w : Action). first_append id grants d (w ∷ rest) ≡ record { term = d.term; node = id; base = d.log; grants = grants } ∷ []) (sym is) refl
+append_found id grants d a x rest is =
+    subst (λ (w : Action). first_append id grants d (w ∷ rest) ≡ record { term = d.term; node = id; base = d.log; grants = grants } ∷ []) (sym is) refl
 
 term_passed : (id : ℕ) (grants : List Grant) (d : Durable) (a : Action) (t : ℕ) (rest : List Action) → a ≡ action.SetTerm t
     → first_append id grants d (a ∷ rest) ≡ first_append id grants (done d a) rest
@@ -148,10 +150,13 @@ pub held_whole : (ring : Layout) (id : ℕ) (h g : History) (d : Durable) (steps
     → IsHeld ring id h g d steps grants path
     → elected ring id h g d steps path ≡ first_append id grants d steps
 held_whole ring id h g d [] grants Ends x = absurd x
-held_whole ring id h g d (a ∷ rest) grants (Goes_on {g = m} (Raises t is up low same) p) x = held_whole ring id m g (done d a) rest grants p x ∙ sym (term_passed id grants d a t rest is)
-held_whole ring id h g d (a ∷ rest) grants (Goes_on {g = m} (Votes c floor is may same) p) x = held_whole ring id m g (done d a) rest grants p x ∙ sym (vote_passed id grants d a c.vote floor rest is)
+held_whole ring id h g d (a ∷ rest) grants (Goes_on {g = m} (Raises t is up low same) p) x =
+    held_whole ring id m g (done d a) rest grants p x ∙ sym (term_passed id grants d a t rest is)
+held_whole ring id h g d (a ∷ rest) grants (Goes_on {g = m} (Votes c floor is may same) p) x =
+    held_whole ring id m g (done d a) rest grants p x ∙ sym (vote_passed id grants d a c.vote floor rest is)
 held_whole ring id h g d (a ∷ rest) grants (Goes_on {g = m} (Leads e w is may same) p) x =
-    ap (λ (q : List Election). e ∷ q) x.1 ∙ (ap (λ (q : Election). q ∷ []) (election_is e id d grants may.of_term may.by may.base x.0) ∙ sym (append_found id grants d a w rest is))
+    ap (λ (q : List Election). e ∷ q) x.1
+    ∙ (ap (λ (q : Election). q ∷ []) (election_is e id d grants may.of_term may.by may.base x.0) ∙ sym (append_found id grants d a w rest is))
 held_whole ring id h g d (a ∷ rest) grants (Goes_on {g = m} (Adds e w is may same) p) x = absurd x
 held_whole ring id h g d (a ∷ rest) grants (Goes_on {g = m} (Cuts w is may same) p) x = absurd x
 held_whole ring id h g d (a ∷ rest) grants (Goes_on {g = m} (Extends es is may same) p) x = absurd x
@@ -164,8 +169,10 @@ pub held_cut : (ring : Layout) (id : ℕ) (h g : History) (d : Durable) (steps :
 unfolding path_cut
 held_cut ring id h g d [] grants n Ends x = absurd x
 held_cut ring id h g d (a ∷ rest) grants zero (Goes_on move p) x = refl
-held_cut ring id h g d (a ∷ rest) grants (suc n) (Goes_on {g = m} (Raises t is up low same) p) x = held_cut ring id m g (done d a) rest grants n p x ∙ sym (term_passed id grants d a t (take n rest) is)
-held_cut ring id h g d (a ∷ rest) grants (suc n) (Goes_on {g = m} (Votes c floor is may same) p) x = held_cut ring id m g (done d a) rest grants n p x ∙ sym (vote_passed id grants d a c.vote floor (take n rest) is)
+held_cut ring id h g d (a ∷ rest) grants (suc n) (Goes_on {g = m} (Raises t is up low same) p) x =
+    held_cut ring id m g (done d a) rest grants n p x ∙ sym (term_passed id grants d a t (take n rest) is)
+held_cut ring id h g d (a ∷ rest) grants (suc n) (Goes_on {g = m} (Votes c floor is may same) p) x =
+    held_cut ring id m g (done d a) rest grants n p x ∙ sym (vote_passed id grants d a c.vote floor (take n rest) is)
 held_cut ring id h g d (a ∷ rest) grants (suc n) (Goes_on {g = m} (Leads e w is may same) p) x =
     ap (λ (q : List Election). e ∷ q) (quiet_cut ring id m g (done d a) rest n p x.1)
     ∙ (ap (λ (q : Election). q ∷ []) (election_is e id d grants may.of_term may.by may.base x.0) ∙ sym (append_found id grants d a w (take n rest) is))

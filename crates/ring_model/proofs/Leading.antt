@@ -67,7 +67,8 @@ module _ (ring : Layout) (h : History) (id : ℕ) (d : Durable) (e : Election) (
     elections = λ f in_f. Contains-append_left h.elections (e ∷ []) f in_f;
     casts = λ c in_c. in_c;
     messages = λ m in_m. in_m;
-    books = λ f in_f. subst (λ (b : List Entry). Agree (length (h.book f.term)) (h.book f.term) b) (sym (led_old f in_f)) (agree_same (length (h.book f.term)) (h.book f.term) (omega arith));
+    books = λ f in_f. subst (λ (b : List Entry). Agree (length (h.book f.term)) (h.book f.term) b) (sym (led_old f in_f))
+        (agree_same (length (h.book f.term)) (h.book f.term) (omega arith));
     other_books = λ f in_f other. sym (led_old f in_f);
     chosen = omega arith;
     new_elections = λ f in_f. elim (Contains-push_cases h.elections e f in_f) [ inl old ↦ inl old | inr new ↦ inr (ap (λ (w : Election). w.node) (sym new) ∙ may.by) ];
@@ -82,7 +83,9 @@ module _ (ring : Layout) (h : History) (id : ℕ) (d : Durable) (e : Election) (
   led_log = push_log ring h led id d x e led_grows n led_book (Contains-push h.elections e) may.by may.of_term may.x_term may.x_region may.x_place
 
   pub led_node : IsNode ring led id (record d { log = d.log ++ x ∷ [] })
-  led_node = lead_keeps ring h led id d x e led_grows n led_book (Contains-push h.elections e) may.by may.of_term may.x_term may.x_region may.x_place k (λ c in_c. in_c) (λ m in_m. in_m)
+  led_node =
+      lead_keeps ring h led id d x e led_grows n led_book (Contains-push h.elections e) may.by may.of_term may.x_term may.x_region may.x_place k
+      (λ c in_c. in_c) (λ m in_m. in_m)
       (λ f in_f mine. elim (Contains-push_cases h.elections e f in_f) [ inl old ↦ n.led_below f old mine | inr new ↦ let q = ap (λ (w : Election). w.term) new in omega (arith, may.of_term) ])
       (λ f s in_f mine t lt. elim (Contains-push_cases h.elections e f in_f) [
         | inl old ↦ (old, book_elsewhere h s e.term (d.log ++ x ∷ []) (λ same. omega (arith, may.of_term)))
@@ -137,7 +140,8 @@ module _ (ring : Layout) (h : History) (id : ℕ) (d : Durable) (e : Election) (
         own = λ i low high.
             let is : i ≡ suc (length d.log) = omega (arith, ap length b_is, ap length may.base, length_push d.log x) in
             ap (λ (b : List Entry). term_at b i) b_is ∙ (ap (term_at (d.log ++ x ∷ [])) is ∙ (term_at_end d.log x ∙ (may.x_term ∙ sym may.of_term)));
-        book = subst (λ (b : List Entry). IsBookedLog ring led e.term b) (sym b_is) (subst (λ (t : ℕ). IsBookedLog ring led t (d.log ++ x ∷ [])) (sym may.of_term) led_log);
+        book = subst (λ (b : List Entry). IsBookedLog ring led e.term b) (sym b_is)
+            (subst (λ (t : ℕ). IsBookedLog ring led t (d.log ++ x ∷ [])) (sym may.of_term) led_log);
       }
 
 -- ---- a leader adds an entry
@@ -192,7 +196,9 @@ module _ (ring : Layout) (h : History) (id : ℕ) (d : Durable) (e : Election) (
   added_log = push_log ring h added id d x e added_grows n (book_here h d.term (d.log ++ x ∷ [])) may.led may.by may.of_term may.x_term may.x_region may.x_place
 
   pub added_node : IsNode ring added id (record d { log = d.log ++ x ∷ [] })
-  added_node = lead_keeps ring h added id d x e added_grows n (book_here h d.term (d.log ++ x ∷ [])) may.led may.by may.of_term may.x_term may.x_region may.x_place k (λ c in_c. in_c) (λ m in_m. in_m)
+  added_node =
+      lead_keeps ring h added id d x e added_grows n (book_here h d.term (d.log ++ x ∷ [])) may.led may.by may.of_term may.x_term may.x_region may.x_place k
+      (λ c in_c. in_c) (λ m in_m. in_m)
       n.led_below (λ f s in_f mine t lt. (in_f, book_elsewhere h s d.term (d.log ++ x ∷ []) (λ same. omega arith)))
 
   pub added_history : IsHistory ring added

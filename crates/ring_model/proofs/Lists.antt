@@ -1,12 +1,9 @@
 -- Membership of lists: what a filter keeps and what a test of a list finds, by recursion on the list.
-use Rattle.std.proofs.Common.{◌≡◌, ℕ, zero, suc, ◌<◌, ◌==◌, ◌⊎◌, inl, inr, Bool, true, false, ◌&&◌, List, [], ◌∷◌, ◌++◌, length, map, refl, ap, sym, ◌∙◌, arith, Some}
+use Rattle.std.proofs.Common.{◌≡◌, ℕ, zero, suc, ◌==◌, ◌⊎◌, inl, inr, Bool, true, false, List, [], ◌∷◌, ◌++◌, length, map, refl, ap, sym, ◌∙◌, arith, Some}
 use Rattle.std.proofs.lemmas.Bool.Decides.{nat_tests}
-use Rattle.std.specs.Prelude.{nat_lt, slice_get}
+use Rattle.std.specs.Prelude.{slice_get}
 use Rattle.std.specs.List.{Contains, filter, list_any, list_all}
 use Rattle.ring_model.specs.Quorums.{is_listed}
-
-pub lt_test : (a b : ℕ) → a < b → nat_lt a b ≡ true
-lt_test a b h = grind (arith, nat_tests)
 
 pub none_contained : {X : Type 0} (x : X) → Contains [] x → ⊥
 none_contained x c = omega (arith, c.1)
@@ -39,7 +36,8 @@ filter_of p (y ∷ ys) x c = go p y ys x (filter_of p ys x) (p y) refl c
   where
     go : {X : Type 0} (p : X → Bool) (y : X) (ys : List X) (x : X) → (Contains (filter p ys) x → Contains ys x) → (b : Bool) → p y ≡ b
         → Contains (filter p (y ∷ ys)) x → Contains (y ∷ ys) x
-    go p y ys x ih true is c = let c' = rw is at c in elim (cons_cases y (filter p ys) x c') [ inl here ↦ (zero, omega arith, here) | inr there ↦ in_cons y ys x (ih there) ]
+    go p y ys x ih true is c =
+        let c' = rw is at c in elim (cons_cases y (filter p ys) x c') [ inl here ↦ (zero, omega arith, here) | inr there ↦ in_cons y ys x (ih there) ]
     go p y ys x ih false is c = let c' = rw is at c in in_cons y ys x (ih c')
 
 pub filter_true : {X : Type 0} (p : X → Bool) (xs : List X) (x : X) → Contains (filter p xs) x → p x ≡ true
@@ -82,7 +80,8 @@ all_of p (y ∷ ys) x t c = go p y ys x t (cons_cases y ys x c) (all_of p ys x) 
 
 pub map_keeps : {X Y : Type 0} (f : X → Y) (xs : List X) (x : X) → Contains xs x → Contains (map f xs) (f x)
 map_keeps f [] x c = absurd (omega (arith, c.1))
-map_keeps f (y ∷ ys) x c = elim (cons_cases y ys x c) [ inl here ↦ (zero, omega arith, ap f here) | inr there ↦ in_cons (f y) (map f ys) (f x) (map_keeps f ys x there) ]
+map_keeps f (y ∷ ys) x c =
+    elim (cons_cases y ys x c) [ inl here ↦ (zero, omega arith, ap f here) | inr there ↦ in_cons (f y) (map f ys) (f x) (map_keeps f ys x there) ]
 
 pub map_of : {X Y : Type 0} (f : X → Y) (xs : List X) (z : Y) → Contains (map f xs) z → (x : X) × Contains xs x × (f x ≡ z)
 map_of f [] z c = absurd (omega (arith, c.1))
@@ -96,11 +95,6 @@ listed_contains xs x t = let y = any_of (λ (w : ℕ). w == x) xs t in let z : y
 
 pub contains_listed : (xs : List ℕ) (x : ℕ) → Contains xs x → is_listed xs x ≡ true
 contains_listed xs x c = any_true (λ (w : ℕ). w == x) xs x c (grind (arith, nat_tests))
-
--- both parts of a test that holds
-pub both_true : (a b : Bool) → (a && b) ≡ true → (a ≡ true) × (b ≡ true)
-both_true true b t = (refl, t)
-both_true false b t = absurd (let z : false ≡ true = t in cc)
 
 -- ---- places
 placed_first : {X : Type 0} (y : X) (x : X) → Some y ≡ Some x → y ≡ x

@@ -16,7 +16,8 @@ use Rattle.ring_model.proofs.Sending.{sealed_from_book}
 use Rattle.ring_model.proofs.Moves.{MayFollow}
 
 module _ (ring : Layout) (h : History) (id : ℕ) (d : Durable) (k : IsHistory ring h) (n : IsNode ring h id d)
-    (leader : ℕ) (prev : Opid) (mc : ℕ) (es : List Entry) (s : IsStretch ring h d.term leader prev mc (length es)) (win : take (length es) (drop prev.position (h.book d.term)) ≡ es)
+    (leader : ℕ) (prev : Opid) (mc : ℕ) (es : List Entry) (s : IsStretch ring h d.term leader prev mc (length es))
+    (win : take (length es) (drop prev.position (h.book d.term)) ≡ es)
     (foreign : leader ≡ id → ⊥) where
   pub not_mine : s.election.node ≡ id → ⊥
   not_mine by = foreign (sym s.by ∙ by)

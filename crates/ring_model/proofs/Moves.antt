@@ -84,7 +84,8 @@ grows_trans id h g f x y = record {
   books = λ e in_e.
       let a = x.books e in_e in
       let b = y.books e (x.elections e in_e) in
-      agree_trans (length (h.book e.term)) (h.book e.term) (g.book e.term) (f.book e.term) a (agree_less (length (h.book e.term)) (length (g.book e.term)) (g.book e.term) (f.book e.term) a.right b);
+      agree_trans (length (h.book e.term)) (h.book e.term) (g.book e.term) (f.book e.term) a
+      (agree_less (length (h.book e.term)) (length (g.book e.term)) (g.book e.term) (f.book e.term) a.right b);
   other_books = λ e in_e other. x.other_books e in_e other ∙ y.other_books e (x.elections e in_e) other;
   chosen = omega (arith, x.chosen, y.chosen);
   new_elections = λ e in_e. elim (y.new_elections e in_e) [ inl old ↦ x.new_elections e old | inr new ↦ inr new ];
@@ -107,19 +108,23 @@ same_node ring h id d e s n = record {
     | inl kept ↦ inl (subst (λ (v : List Vote). Contains v c.vote) (sym s.votes) kept)
     | inr gone ↦ inr (record {
       at = gone.at;
-      sealed = subst (λ (l : List Entry). IsSealed ring h e.term gone.at l) (sym s.log) (subst (λ (t : ℕ). IsSealed ring h t gone.at d.log) (sym s.term) gone.sealed);
+      sealed = subst (λ (l : List Entry). IsSealed ring h e.term gone.at l) (sym s.log)
+          (subst (λ (t : ℕ). IsSealed ring h t gone.at d.log) (sym s.term) gone.sealed);
       above = subst (λ (l : List Entry). c.vote.term ≤ term_at l gone.at) (sym s.log) gone.above;
     })
   ];
-  between = λ c f in_c in_f by_c by_f t low high. subst (λ (v : List Vote). Contains v f.vote) (sym s.votes) (n.between c f in_c in_f by_c by_f (t ∙ s.term) low high);
+  between = λ c f in_c in_f by_c by_f t low high. subst (λ (v : List Vote). Contains v f.vote) (sym s.votes)
+      (n.between c f in_c in_f by_c by_f (t ∙ s.term) low high);
   acked_below = λ q p a. omega (arith, n.acked_below q p a, s.term);
   acked = λ q p a. elim (n.acked q p a) [ Kept x ↦ Kept (subst (λ (l : List Entry). Agree p (h.book q) l) (sym s.log) x) | Cut_by u o le ↦ Cut_by u o (omega (arith, s.term)) ];
-  applied = subst (λ (l : List Entry). IsSealed ring h e.term e.applied l) (sym s.log) (subst (λ (t : ℕ). IsSealed ring h t e.applied d.log) (sym s.term) (subst (λ (c : ℕ). IsSealed ring h d.term c d.log) (sym s.applied) n.applied));
+  applied = subst (λ (l : List Entry). IsSealed ring h e.term e.applied l) (sym s.log)
+      (subst (λ (t : ℕ). IsSealed ring h t e.applied d.log) (sym s.term) (subst (λ (c : ℕ). IsSealed ring h d.term c d.log) (sym s.applied) n.applied));
 }
 
 said_move : (ring : Layout) (id : ℕ) (h g f : History) (d : Durable) (a b : Action) → a ≡ b → g ≡ f → Holds ring id h f (done d b)
     → Holds ring id h g (done d a)
-said_move ring id h g f d a b is same x = subst (λ (w : History). Holds ring id h w (done d a)) (sym same) (subst (λ (c : Action). Holds ring id h f (done d c)) (sym is) x)
+said_move ring id h g f d a b is same x =
+    subst (λ (w : History). Holds ring id h w (done d a)) (sym same) (subst (λ (c : Action). Holds ring id h f (done d c)) (sym is) x)
 
 pub still : (ring : Layout) (id : ℕ) (h : History) (d : Durable) → IsHistory ring h → IsNode ring h id d → Holds ring id h h d
 still ring id h d k n = record { history = k; node = n; grows = grows_refl id h }

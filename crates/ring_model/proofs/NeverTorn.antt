@@ -24,7 +24,8 @@ no_tear : (log b : List Entry) (commit q : ℕ) (es : List Entry) → q + length
     → ((j : ℕ) → j ≤ commit → term_at log j ≡ term_at b j) → first_tear log commit (suc q) (terms_of es) ≡ None
 no_tear log b commit q [] fits win same = refl
 no_tear log b commit q (e ∷ es) fits win same =
-    go (nat_le (suc q) commit) refl (term_at log (suc q) == e.opid.term) refl (no_tear log b commit (suc q) es (omega arith) (window_cons q b e es (omega arith) win).1 same)
+    go (nat_le (suc q) commit) refl (term_at log (suc q) == e.opid.term) refl
+    (no_tear log b commit (suc q) es (omega arith) (window_cons q b e es (omega arith) win).1 same)
   where
     term_is : e.opid.term ≡ term_at b (suc q)
     term_is = (window_cons q b e es (omega arith) win).0
@@ -34,7 +35,8 @@ no_tear log b commit q (e ∷ es) fits win same =
         → (if a then (if c then first_tear log commit (suc (suc q)) (terms_of es) else Some (record { position = suc q; kept_term = term_at log (suc q); sent_term = e.opid.term })) else None) ≡ None
     go false x c y rest = refl
     go true x true y rest = rest
-    go true x false y rest = absurd (let le : suc q ≤ commit = grind (arith, nat_tests, x) in let is : term_at log (suc q) ≡ e.opid.term = same (suc q) le ∙ sym term_is in grind (arith, nat_tests, y, is))
+    go true x false y rest =
+        absurd (let le : suc q ≤ commit = grind (arith, nat_tests, x) in let is : term_at log (suc q) ≡ e.opid.term = same (suc q) le ∙ sym term_is in grind (arith, nat_tests, y, is))
 
 tear_none : (ring : Layout) (h : History) (id : ℕ) (sent : Append) (d : Durable) (s : Soft) → nat_lt sent.term d.term ≡ false → IsHistory ring h
     → IsNode ring h id d → IsRunning ring h id d s
@@ -51,13 +53,16 @@ tear_none ring h id sent d s x k n r told foreign = go (nat_le sent.prev.positio
     ]
 
     same : (j : ℕ) → j ≤ s.commit → term_at d.log j ≡ term_at (h.book sent.term) j
-    same = never_torn ring h id (record d { term = sent.term }) k raised sent.leader sent.prev sent.commit sent.entries told.0 told.1 foreign s.commit (seal_raise ring h d.term sent.term s.commit d.log up r.sealed)
+    same =
+        never_torn ring h id (record d { term = sent.term }) k raised sent.leader sent.prev sent.commit sent.entries told.0 told.1 foreign s.commit
+        (seal_raise ring h d.term sent.term s.commit d.log up r.sealed)
 
     go : (a : Bool) → nat_le sent.prev.position s.commit ≡ a → (c : Bool) → (term_at d.log sent.prev.position == sent.prev.term) ≡ c
         → (if a then (if c then first_tear d.log s.commit (suc sent.prev.position) (terms_of sent.entries) else Some (record { position = sent.prev.position; kept_term = term_at d.log sent.prev.position; sent_term = sent.prev.term })) else None) ≡ None
     go false y c z = refl
     go true y true z = no_tear d.log (h.book sent.term) s.commit sent.prev.position sent.entries told.0.fits (sym told.1) same
-    go true y false z = absurd (let le : sent.prev.position ≤ s.commit = grind (arith, nat_tests, y) in let is : term_at d.log sent.prev.position ≡ sent.prev.term = same sent.prev.position le ∙ told.0.prev_term in grind (arith, nat_tests, z, is))
+    go true y false z =
+        absurd (let le : sent.prev.position ≤ s.commit = grind (arith, nat_tests, y) in let is : term_at d.log sent.prev.position ≡ sent.prev.term = same sent.prev.position le ∙ told.0.prev_term in grind (arith, nat_tests, z, is))
 
 pub append_tears_not : (ring : Layout) (h : History) (id : ℕ) (sent : Append) (d : Durable) (s : Soft) → IsHistory ring h → IsNode ring h id d
     → IsRunning ring h id d s

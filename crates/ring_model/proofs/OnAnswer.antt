@@ -43,7 +43,8 @@ heard_matched h from t p ok (x ∷ peers) f g y c some = go (x.node == from) ref
     one true is same more = elim (cases_lt 0 x.matched) [
       | inl had ↦ greater_by (λ (w : ℕ). HasAcked h x.node t w) x.matched p (f x (zero, omega arith, refl) had) (subst (λ (w : ℕ). HasAcked h w t p) (sym same) (g is))
       | inr none ↦ greater_by (λ (w : ℕ). HasAcked h x.node t w) x.matched p
-          (acked_less h x.node t x.matched p (omega arith) (subst (λ (w : ℕ). HasAcked h w t p) (sym same) (g is))) (subst (λ (w : ℕ). HasAcked h w t p) (sym same) (g is))
+          (acked_less h x.node t x.matched p (omega arith) (subst (λ (w : ℕ). HasAcked h w t p) (sym same) (g is)))
+          (subst (λ (w : ℕ). HasAcked h w t p) (sym same) (g is))
     ]
     one false is same more = f x (zero, omega arith, refl) more
 
@@ -55,8 +56,12 @@ heard_matched h from t p ok (x ∷ peers) f g y c some = go (x.node == from) ref
     ]
       where
         at_heard : (b : Bool) → ok ≡ b → heard_from x b p ≡ y → HasAcked h y.node t y.matched
-        at_heard true is here = subst (λ (w : Peer). HasAcked h w.node t w.matched) here (one true is (grind (arith, nat_tests, e)) (let m = ap (λ (w : Peer). w.matched) here in omega arith))
-        at_heard false is here = subst (λ (w : Peer). HasAcked h w.node t w.matched) here (one false is (grind (arith, nat_tests, e)) (let m = ap (λ (w : Peer). w.matched) here in omega arith))
+        at_heard true is here =
+            subst (λ (w : Peer). HasAcked h w.node t w.matched) here
+            (one true is (grind (arith, nat_tests, e)) (let m = ap (λ (w : Peer). w.matched) here in omega arith))
+        at_heard false is here =
+            subst (λ (w : Peer). HasAcked h w.node t w.matched) here
+            (one false is (grind (arith, nat_tests, e)) (let m = ap (λ (w : Peer). w.matched) here in omega arith))
     go false e b is c ih = let u = rw e at c in elim (cons_cases x (heard_among peers from ok p) y u) [
       | inl here ↦ subst (λ (w : Peer). HasAcked h w.node t w.matched) here (f x (zero, omega arith, refl) (let m = ap (λ (w : Peer). w.matched) here in omega arith))
       | inr there ↦ ih y there some
@@ -141,7 +146,8 @@ more_row ring h id to term d s st row =
       acted = row.acted;
       path = row.path;
       sent = with_message row.sent m;
-      sends = sends_more ring id (all_done d st.plan.actions) row.acted row.sent st.plan.messages m row.sends tt (record { from = refl; answers = λ u v bad. absurd cc });
+      sends = sends_more ring id (all_done d st.plan.actions) row.acted row.sent st.plan.messages m row.sends tt
+          (record { from = refl; answers = λ u v bad. absurd cc });
       role = role_sent ring row.sent m id (all_done d st.plan.actions) st.soft st.soft.role row.role;
       sealed = sealed_sent ring row.sent m (all_done d st.plan.actions).term st.soft.commit (all_done d st.plan.actions).log row.sealed;
       applied = row.applied;
@@ -180,5 +186,7 @@ unfolding on_answer
 answered_row ring h m id from answer d s k n r in_m by is = go (counts d s answer && answer.ok)
   where
     go : (a : Bool) → IsRow ring h id d s (if a then with_more (on_ack ring id d s from answer) (after_ok id d (on_ack ring id d s from answer).soft.peers from s.transfer) else on_ack ring id d s from answer)
-    go true = over_row ring h id from d d s (on_ack ring id d s from answer).soft.peers s.transfer (on_ack ring id d s from answer) (ack_row ring h m id from answer d s k n r in_m by is)
+    go true =
+        over_row ring h id from d d s (on_ack ring id d s from answer).soft.peers s.transfer (on_ack ring id d s from answer)
+        (ack_row ring h m id from answer d s k n r in_m by is)
     go false = ack_row ring h m id from answer d s k n r in_m by is

@@ -87,12 +87,15 @@ accept_row ring h id sent d o s first says k p before n is_t same_log role seale
     subst (λ (u : ℕ). IsSealed ring h u c f.log) (sym x.term)
     (greater_by (λ (b : ℕ). IsSealed ring h e.term b f.log) s.commit (smaller_of sent.commit m) x.sealed
     (commit_new ring h id e k n sent.leader sent.prev sent.commit sent.entries stretch win foreign a (smaller_of sent.commit m) f.log low.0 low.1 x.agrees)) in
-    let within : c ≤ length h.chosen = greater_by (λ (b : ℕ). b ≤ length h.chosen) s.commit (smaller_of sent.commit m) low_chosen (omega (arith, low.0, stretch.chosen)) in
+    let within : c ≤ length h.chosen =
+    greater_by (λ (b : ℕ). b ≤ length h.chosen) s.commit (smaller_of sent.commit m) low_chosen (omega (arith, low.0, stretch.chosen)) in
     let y = follow_path ring id id h f c (omega (arith, x.applied, (greater_both s.commit (smaller_of sent.commit m)).0)) new (inl within) in
     let g : Durable = all_done f (follow_actions ring id f c) in
-    let j : all_done d (first ++ (acts ++ follow_actions ring id f c)) ≡ g = done_join d first (acts ++ follow_actions ring id f c) ∙ done_join e acts (follow_actions ring id f c) in
+    let j : all_done d (first ++ (acts ++ follow_actions ring id f c)) ≡ g =
+    done_join d first (acts ++ follow_actions ring id f c) ∙ done_join e acts (follow_actions ring id f c) in
     let tail : Path ring id h e (acts ++ follow_actions ring id f c) h = path_join ring id h h h e acts (follow_actions ring id f c) x.path y.path in
-    let path : Path ring id h d (first ++ (acts ++ follow_actions ring id f c)) h = path_join ring id h h h d first (acts ++ follow_actions ring id f c) p tail in
+    let path : Path ring id h d (first ++ (acts ++ follow_actions ring id f c)) h =
+    path_join ring id h h h d first (acts ++ follow_actions ring id f c) p tail in
     let quiet : elected ring id h h d (first ++ (acts ++ follow_actions ring id f c)) path ≡ [] =
     quiet_join ring id h h h d first (acts ++ follow_actions ring id f c) p tail (before_quiet ring id h h d first p before)
     (quiet_join ring id h h h e acts (follow_actions ring id f c) x.path y.path x.quiet y.quiet) in
@@ -115,8 +118,11 @@ accept_row ring h id sent d o s first says k p before n is_t same_log role seale
       path = path;
       sent = with_message h ok;
       sends = subst (λ (w : Durable). Sends ring id w h (ok ∷ []) (with_message h ok)) (sym j) sends;
-      role = subst (λ (r : Role). HasRole (with_message h ok) id (all_done d (first ++ (acts ++ follow_actions ring id f c))) (record s { commit = c }) r) (sym role) tt;
-      sealed = sealed_sent ring h ok (all_done d (first ++ (acts ++ follow_actions ring id f c))).term c (all_done d (first ++ (acts ++ follow_actions ring id f c))).log
+      role = subst (λ (r : Role). HasRole (with_message h ok) id (all_done d (first ++ (acts ++ follow_actions ring id f c))) (record s { commit = c }) r)
+          (sym role) tt;
+      sealed =
+          sealed_sent ring h ok (all_done d (first ++ (acts ++ follow_actions ring id f c))).term c
+          (all_done d (first ++ (acts ++ follow_actions ring id f c))).log
           (subst (λ (w : Durable). IsSealed ring h w.term c w.log) (sym j)
           (subst (λ (u : ℕ). IsSealed ring h u c g.log) (sym y.after.term) (subst (λ (l : List Entry). IsSealed ring h f.term c l) (sym y.after.log) new)));
       applied = subst (λ (w : Durable). w.applied ≤ c) (sym j) y.after.applied;
@@ -148,12 +154,17 @@ match_row ring h id sent d o s first says k p before n is_t same role sealed app
         → IsRow ring h id d o (if a then stepped first (reply id sent.leader sent.term false (length d.log) ∷ []) says s
         else (if b then accept ring id d s first says sent else stepped first (reply id sent.leader sent.term false (sent.prev.position - 1) ∷ []) says s))
     go true x b y = refusing_row ring h id sent.leader sent.term (length d.log) d o s first says p before (inr (ap is_leader role)) follower sealed applied low
-    go false x false y = refusing_row ring h id sent.leader sent.term (sent.prev.position - 1) d o s first says p before (inr (ap is_leader role)) follower sealed applied low
+    go false x false y =
+        refusing_row ring h id sent.leader sent.term (sent.prev.position - 1) d o s first says p before (inr (ap is_leader role)) follower sealed applied low
     go false x true y =
-        let stretch : IsStretch ring h (all_done d first).term sent.leader sent.prev sent.commit (length sent.entries) = subst (λ (u : ℕ). IsStretch ring h u sent.leader sent.prev sent.commit (length sent.entries)) (sym is_t) told.0 in
-        let win : take (length sent.entries) (drop sent.prev.position (h.book (all_done d first).term)) ≡ sent.entries = subst (λ (u : ℕ). take (length sent.entries) (drop sent.prev.position (h.book u)) ≡ sent.entries) (sym is_t) told.1 in
-        let le : sent.prev.position ≤ length (all_done d first).log = (let z : sent.prev.position ≤ length d.log = grind (arith, nat_tests, x) in omega (arith, ap length same)) in
-        let at : term_at (all_done d first).log sent.prev.position ≡ sent.prev.term = ap (λ (l : List Entry). term_at l sent.prev.position) same ∙ grind (arith, nat_tests, y) in
+        let stretch : IsStretch ring h (all_done d first).term sent.leader sent.prev sent.commit (length sent.entries) =
+        subst (λ (u : ℕ). IsStretch ring h u sent.leader sent.prev sent.commit (length sent.entries)) (sym is_t) told.0 in
+        let win : take (length sent.entries) (drop sent.prev.position (h.book (all_done d first).term)) ≡ sent.entries =
+        subst (λ (u : ℕ). take (length sent.entries) (drop sent.prev.position (h.book u)) ≡ sent.entries) (sym is_t) told.1 in
+        let le : sent.prev.position ≤ length (all_done d first).log =
+        (let z : sent.prev.position ≤ length d.log = grind (arith, nat_tests, x) in omega (arith, ap length same)) in
+        let at : term_at (all_done d first).log sent.prev.position ≡ sent.prev.term =
+        ap (λ (l : List Entry). term_at l sent.prev.position) same ∙ grind (arith, nat_tests, y) in
         let a = prev_agrees ring h id (all_done d first) k n sent.leader sent.prev sent.commit sent.entries stretch win foreign sent.prev.position refl le at in
         accept_row ring h id sent d o s first says k p before n is_t same role sealed applied low stretch win foreign a
 
@@ -167,10 +178,15 @@ follow_row ring h id sent d s x k n r told foreign = go (nat_lt d.term sent.term
         else elim o [ Follower ↦ match_append ring id d s [] [] sent | Candidate ↦ match_append ring id d (demoted s) [] (unknowns s) sent | Leader ↦ idle s ])
     go true y o z =
         let up : d.term < sent.term = grind (arith, nat_tests, y) in
-        match_row ring h id sent d s (demoted s) (action.SetTerm sent.term ∷ []) (unknowns s) k (Goes_on (Raises sent.term refl up (omega (arith, r.applied, r.chosen)) refl) Ends) tt (raise_keeps ring h id sent.term d up n) refl refl refl
+        match_row ring h id sent d s (demoted s) (action.SetTerm sent.term ∷ []) (unknowns s) k
+        (Goes_on (Raises sent.term refl up (omega (arith, r.applied, r.chosen)) refl) Ends) tt (raise_keeps ring h id sent.term d up n) refl refl refl
         (seal_raise ring h d.term sent.term s.commit d.log (omega arith) r.sealed) r.applied r.chosen told foreign
-    go false y Follower z = let is : d.term ≡ sent.term = grind (arith, nat_tests, x, y) in match_row ring h id sent d s s [] [] k Ends tt n is refl z r.sealed r.applied r.chosen told foreign
-    go false y Candidate z = let is : d.term ≡ sent.term = grind (arith, nat_tests, x, y) in match_row ring h id sent d s (demoted s) [] (unknowns s) k Ends tt n is refl refl r.sealed r.applied r.chosen told foreign
+    go false y Follower z =
+        let is : d.term ≡ sent.term = grind (arith, nat_tests, x, y) in
+        match_row ring h id sent d s s [] [] k Ends tt n is refl z r.sealed r.applied r.chosen told foreign
+    go false y Candidate z =
+        let is : d.term ≡ sent.term = grind (arith, nat_tests, x, y) in
+        match_row ring h id sent d s (demoted s) [] (unknowns s) k Ends tt n is refl refl r.sealed r.applied r.chosen told foreign
     go false y Leader z = idle_row ring h id d s r
 
 leader_or_not : (s : Soft) → (is_leader s.role ≡ true) ⊎ (is_leader s.role ≡ false)

@@ -43,7 +43,8 @@ kept_in_term (x ∷ votes) t w is = go (x.term == t) refl is (kept_in_term votes
   where
     go : (b : Bool) → (x.term == t) ≡ b → vote_in (x ∷ votes) t ≡ Some w → (vote_in votes t ≡ Some w → Contains votes w × (w.term ≡ t))
         → Contains (x ∷ votes) w × (w.term ≡ t)
-    go true e is ih = let u = rw e at is in let same : x ≡ w = cc in ((zero, omega arith, same), ap (λ (v : Vote). v.term) (sym same) ∙ grind (arith, nat_tests, e))
+    go true e is ih =
+        let u = rw e at is in let same : x ≡ w = cc in ((zero, omega arith, same), ap (λ (v : Vote). v.term) (sym same) ∙ grind (arith, nat_tests, e))
     go false e is ih = let u = rw e at is in let y = ih u in ((suc y.0.0, omega (arith, y.0.1), y.0.2), y.1)
 
 none_in_term : (votes : List Vote) (t : ℕ) (w : Vote) → vote_in votes t ≡ None → Contains votes w → w.term ≡ t → ⊥
@@ -60,7 +61,8 @@ abbrev vote_of : ℕ → ℕ → ℕ → Vote
 vote_of t x r = record { term = t; candidate = x; region = r }
 
 vote_is : (ring : Layout) (v : Vote) (t x : ℕ) → v.term ≡ t → v.candidate ≡ x → v.region ≡ region_of ring v.candidate → v ≡ new_vote ring t x
-vote_is ring v t x a b c = ap (λ (w : ℕ). vote_of w v.candidate v.region) a ∙ (ap (λ (w : ℕ). vote_of t w v.region) b ∙ ap (λ (w : ℕ). vote_of t x w) (c ∙ ap (region_of ring) b))
+vote_is ring v t x a b c =
+    ap (λ (w : ℕ). vote_of w v.candidate v.region) a ∙ (ap (λ (w : ℕ). vote_of t w v.region) b ∙ ap (λ (w : ℕ). vote_of t x w) (c ∙ ap (region_of ring) b))
 
 at_least_is : (q : Opid) (l : List Entry) → at_least q (last l) ≡ true → IsUpToDate q l
 at_least_is q l is = go (nat_lt (last l).term q.term) refl (q.term == (last l).term) refl
@@ -71,7 +73,8 @@ at_least_is q l is = go (nat_lt (last l).term q.term) refl (q.term == (last l).t
     go false x false y = absurd (let u = rw (x, y) at is in let z : false ≡ true = u in cc)
 
 refused_sent : (ring : Layout) (h : History) (id to t : ℕ) (d : Durable) → Sends ring id d h (refuse_vote id to t ∷ []) (with_message h (refuse_vote id to t))
-refused_sent ring h id to t d = Sends_on {m = refuse_vote id to t} (λ bad. absurd (let z : false ≡ true = bad in cc)) (record { from = refl; answers = λ u v bad. absurd cc }) Sent_all
+refused_sent ring h id to t d =
+    Sends_on {m = refuse_vote id to t} (λ bad. absurd (let z : false ≡ true = bad in cc)) (record { from = refl; answers = λ u v bad. absurd cc }) Sent_all
 
 -- the node's role stays through a vote that it casts
 role_cast : (ring : Layout) (h : History) (c : Cast) (floor id : ℕ) (d : Durable) (s : Soft) (r : Role) → Grows id h (with_cast h c) → HasRole h id d s r
@@ -83,13 +86,16 @@ role_cast ring h c floor id d s Candidate g x = record {
   not_led = x.not_led;
   grants = λ w in_w. grow_grant ring id h (with_cast h c) g id d.term (last d.log) w (x.grants w in_w);
 }
-role_cast ring h c floor id d s Leader g x = leader_at (with_cast h c) id d (done d (action.Vote c.vote floor)) s s refl (omega arith) refl (leader_stays ring id h (with_cast h c) g id d s x)
+role_cast ring h c floor id d s Leader g x =
+    leader_at (with_cast h c) id d (done d (action.Vote c.vote floor)) s s refl (omega arith) refl (leader_stays ring id h (with_cast h c) g id d s x)
 
 module _ (ring : Layout) (h : History) (id from : ℕ) (asked : RequestVote) (d : Durable) (o s : Soft) (first : List Action) (says : List Say)
     (k : IsHistory ring h) (sent : IsSent ring h from id (body.RequestVote asked))
-    (p : Path ring id h d first h) (before : IsBefore ring id h h d first p) (standing : (is_leader o.role ≡ true) ⊎ (is_leader s.role ≡ false)) (n : IsNode ring h id (all_done d first)) (is_t : (all_done d first).term ≡ asked.term)
+    (p : Path ring id h d first h) (before : IsBefore ring id h h d first p) (standing : (is_leader o.role ≡ true) ⊎ (is_leader s.role ≡ false))
+    (n : IsNode ring h id (all_done d first)) (is_t : (all_done d first).term ≡ asked.term)
     (same_log : (all_done d first).log ≡ d.log) (same_votes : (all_done d first).votes ≡ d.votes)
-    (role : HasRole h id (all_done d first) s s.role) (sealed : IsSealed ring h (all_done d first).term s.commit (all_done d first).log) (applied : (all_done d first).applied ≤ s.commit) (low : s.commit ≤ length h.chosen) where
+    (role : HasRole h id (all_done d first) s s.role) (sealed : IsSealed ring h (all_done d first).term s.commit (all_done d first).log)
+    (applied : (all_done d first).applied ≤ s.commit) (low : s.commit ≤ length h.chosen) where
   quiet_standing : (m : History) (steps : List Action) (path : Path ring id h d steps m) → elected ring id h m d steps path ≡ []
       → Holding ring id h m d o s steps path
   quiet_standing m steps path none = elim standing [ inl led ↦ Led_before led none | inr not_led ↦ Leads_not not_led none ]
@@ -113,7 +119,8 @@ module _ (ring : Layout) (h : History) (id from : ℕ) (asked : RequestVote) (d 
       let e : Durable = all_done d first in
       let c = kept_vote ring h id e k n w from asked.last in_w (w_t ∙ sym is_t) w_from sent.0 sent.1 sent.2 sent.3 (sent.4 ∙ sym is_t) sent.5 in
       let g : IsGrant h from asked.term asked.last (record { voter = id; votes = votes_between asked.last.term asked.term e.votes }) =
-      subst (λ (u : ℕ). IsGrant h from u asked.last (record { voter = id; votes = votes_between asked.last.term u e.votes })) is_t (reports_all ring h id e k n c.0 from asked.last c.1 c.2 c.3 c.4 c.5) in
+      subst (λ (u : ℕ). IsGrant h from u asked.last (record { voter = id; votes = votes_between asked.last.term u e.votes })) is_t
+      (reports_all ring h id e k n c.0 from asked.last c.1 c.2 c.3 c.4 c.5) in
       record {
         acted = h;
         path = p;
@@ -153,13 +160,15 @@ module _ (ring : Layout) (h : History) (id from : ℕ) (asked : RequestVote) (d 
       subst (λ (u : ℕ). IsGrant m from u asked.last (record { voter = id; votes = votes_between asked.last.term u f.votes })) is_t
       (reports_all ring m id f a.history a.node c from asked.last (Contains-push h.casts c) refl (sym is_t) refl refl) in
       let answer : Message = grant_vote id from asked f in
-      let sends : Sends ring id f m (answer ∷ []) (with_message m answer) = Sends_on {m = answer} (λ ok. (asked.last, g)) (record { from = refl; answers = λ u v bad. absurd cc }) Sent_all in
+      let sends : Sends ring id f m (answer ∷ []) (with_message m answer) =
+      Sends_on {m = answer} (λ ok. (asked.last, g)) (record { from = refl; answers = λ u v bad. absurd cc }) Sent_all in
       let row : IsRow ring h id d o (stepped (first ++ (vote ∷ [])) (answer ∷ []) says s) = record {
         acted = m;
         path = path_join ring id h h m d first (vote ∷ []) p (Goes_on (Votes c (floor_of d s) refl may refl) Ends);
         sent = with_message m answer;
         sends = subst (λ (w : Durable). Sends ring id w m (answer ∷ []) (with_message m answer)) (sym j) sends;
-        role = subst (λ (w : Durable). HasRole (with_message m answer) id w s s.role) (sym j) (role_sent ring m answer id f s s.role (role_cast ring h c (floor_of d s) id e s s.role a.grows role));
+        role = subst (λ (w : Durable). HasRole (with_message m answer) id w s s.role) (sym j)
+            (role_sent ring m answer id f s s.role (role_cast ring h c (floor_of d s) id e s s.role a.grows role));
         sealed = subst (λ (w : Durable). IsSealed ring (with_message m answer) w.term s.commit w.log) (sym j)
             (sealed_sent ring m answer e.term s.commit e.log (grow_sealed ring id h m a.grows e.term e.term s.commit e.log (omega arith) sealed));
         applied = subst (λ (w : Durable). w.applied ≤ s.commit) (sym j) applied;
@@ -185,7 +194,8 @@ module _ (ring : Layout) (h : History) (id from : ℕ) (asked : RequestVote) (d 
       fresh is false x b = refused_row
 
       go : (v : Option Vote) → vote_in d.votes asked.term ≡ v → IsRow ring h id d o (answer_by ring id d s first says from asked v)
-      go (Some w) is = let x = kept_in_term d.votes asked.term w is in kept w (subst (λ (v : List Vote). Contains v w) (sym same_votes) x.0, x.1) (w.candidate == from) refl
+      go (Some w) is =
+          let x = kept_in_term d.votes asked.term w is in kept w (subst (λ (v : List Vote). Contains v w) (sym same_votes) x.0, x.1) (w.candidate == from) refl
       go None is = fresh is (at_least asked.last (last d.log)) refl (has_room (floor_of d s) d.votes)
 
 pub request_row : (ring : Layout) (h : History) (id from : ℕ) (asked : RequestVote) (d : Durable) (s : Soft) → IsHistory ring h → IsNode ring h id d
@@ -217,7 +227,9 @@ request_row ring h id from asked d s k n r sent = voter (votes ring id)
     }
     go false x true y =
         let up : d.term < asked.term = grind (arith, nat_tests, y) in
-        answer_row ring h id from asked d s (demoted s) (action.SetTerm asked.term ∷ []) (unknowns s) k sent (Goes_on (Raises asked.term refl up (omega (arith, r.applied, r.chosen)) refl) Ends) tt (inr refl) (raise_keeps ring h id asked.term d up n) refl refl refl tt
+        answer_row ring h id from asked d s (demoted s) (action.SetTerm asked.term ∷ []) (unknowns s) k sent
+        (Goes_on (Raises asked.term refl up (omega (arith, r.applied, r.chosen)) refl) Ends) tt (inr refl)
+        (raise_keeps ring h id asked.term d up n) refl refl refl tt
         (seal_raise ring h d.term asked.term s.commit d.log (omega arith) r.sealed) r.applied r.chosen
     go false x false y =
         let is : d.term ≡ asked.term = grind (arith, nat_tests, x, y) in

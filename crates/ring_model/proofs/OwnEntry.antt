@@ -69,7 +69,8 @@ module _ (ring : Layout) (h g : History) (id : ℕ) (d : Durable) (x : Entry) (e
           of_region = region_at_end ring.home d.log x ∙ (x_region ∙ ap (region_of ring) (sym by));
           in_book = subst (λ (w : ℕ). Agree (suc (length d.log)) longer (g.book w)) (sym t)
               (subst (λ (b : List Entry). Agree (suc (length d.log)) longer b) (sym book_is) (agree_same (suc (length d.log)) longer (omega (arith, length_push d.log x))));
-          place = λ y here. let z : x ≡ y = (let w : Some x ≡ Some y = sym (get_end d.log x) ∙ here in cc) in ap (λ (w : Entry). w.opid.position) (sym z) ∙ x_place;
+          place = λ y here. let z : x ≡ y = (let w : Some x ≡ Some y = sym (get_end d.log x) ∙ here in cc) in ap (λ (w : Entry). w.opid.position) (sym z)
+              ∙ x_place;
         })
     | inr le ↦
         let y = grow_entry ring id h g grows d.log k (n.log.entry k some le) in
@@ -124,7 +125,8 @@ module _ (ring : Layout) (h g : History) (id : ℕ) (d : Durable) (x : Entry) (e
 
   module _ (k : IsHistory ring h) (old_casts : (c : Cast) → Contains g.casts c → Contains h.casts c)
       (old_messages : (m : Message) → Contains g.messages m → Contains h.messages m)
-      (once : (f : Election) → Contains g.elections f → f.node ≡ id → f.term ≤ d.term) (others : (f : Election) (s : ℕ) → Contains g.elections f → f.node ≡ id → f.term ≡ s → s < d.term → (Contains h.elections f) × (g.book s ≡ h.book s)) where
+      (once : (f : Election) → Contains g.elections f → f.node ≡ id → f.term ≤ d.term)
+      (others : (f : Election) (s : ℕ) → Contains g.elections f → f.node ≡ id → f.term ≡ s → s < d.term → (Contains h.elections f) × (g.book s ≡ h.book s)) where
     acked_old : (s p : ℕ) → HasAcked h id s p → KeepsAcked g (record d { log = longer }) s p
     acked_old s p a = elim (grow_keeps ring id h g grows k d id s p a (n.acked s p a)) [
       | Kept y ↦ Kept (agree_trans p (g.book s) d.log longer y (agree_more p d.log (x ∷ []) y.right))

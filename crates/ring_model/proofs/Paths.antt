@@ -58,7 +58,8 @@ path_chosen ring id h g d (a ∷ rest) (Goes_on {g = m} move path) = path_chosen
 -- ---- books on the way
 -- the book of each led term is as it was, or the node's log after some of the actions
 abbrev pub BooksGo : History → History → Durable → List Action → Type 0
-BooksGo h g d steps = (e : Election) → Contains g.elections e → (Contains h.elections e × (g.book e.term ≡ h.book e.term)) ⊎ ((n : ℕ) × (g.book e.term ≡ (all_done d (take n steps)).log))
+BooksGo h g d steps =
+    (e : Election) → Contains g.elections e → (Contains h.elections e × (g.book e.term ≡ h.book e.term)) ⊎ ((n : ℕ) × (g.book e.term ≡ (all_done d (take n steps)).log))
 
 abbrev pub BookGoes : History → History → List Entry → Election → Type 0
 BookGoes h g l e = (Contains h.elections e × (g.book e.term ≡ h.book e.term)) ⊎ (g.book e.term ≡ l)
@@ -69,23 +70,27 @@ book_stays h g l same e in_e = inl (subst (λ (w : History). Contains w.election
 pub guarded_books : (ring : Layout) (id : ℕ) (h g : History) (d : Durable) (a : Action) → Guarded ring id h d a g → (e : Election) → Contains g.elections e
     → BookGoes h g (done d a).log e
 guarded_books ring id h g d a (Leads f x is may same) e in_e =
-    subst (λ (w : History). BookGoes h w (done d a).log e) (sym same) (subst (λ (b : Action). BookGoes h (with_election h f (d.log ++ x ∷ [])) (done d b).log e) (sym is)
+    subst (λ (w : History). BookGoes h w (done d a).log e) (sym same)
+    (subst (λ (b : Action). BookGoes h (with_election h f (d.log ++ x ∷ [])) (done d b).log e) (sym is)
     (go (e.term == f.term) refl (Contains-append_cases h.elections (f ∷ []) e (subst (λ (w : History). Contains w.elections e) same in_e))))
   where
     go : (b : Bool) → (e.term == f.term) ≡ b → Contains h.elections e ⊎ Contains (f ∷ []) e
         → BookGoes h (with_election h f (d.log ++ x ∷ [])) (d.log ++ x ∷ []) e
     go true y c = inr (rw y refl)
     go false y (inl old) = inl (old, rw y refl)
-    go false y (inr new) = absurd (let z : f ≡ e = only_one f e new in let u : e.term ≡ f.term = ap (λ (w : Election). w.term) (sym z) in let v : (e.term == f.term) ≡ true = grind (arith, nat_tests, u) in let q : true ≡ false = sym v ∙ y in cc)
+    go false y (inr new) =
+        absurd (let z : f ≡ e = only_one f e new in let u : e.term ≡ f.term = ap (λ (w : Election). w.term) (sym z) in let v : (e.term == f.term) ≡ true = grind (arith, nat_tests, u) in let q : true ≡ false = sym v ∙ y in cc)
 guarded_books ring id h g d a (Adds f x is may same) e in_e =
-    subst (λ (w : History). BookGoes h w (done d a).log e) (sym same) (subst (λ (b : Action). BookGoes h (with_book h d.term (d.log ++ x ∷ [])) (done d b).log e) (sym is)
+    subst (λ (w : History). BookGoes h w (done d a).log e) (sym same)
+    (subst (λ (b : Action). BookGoes h (with_book h d.term (d.log ++ x ∷ [])) (done d b).log e) (sym is)
     (go (e.term == d.term) refl (subst (λ (w : History). Contains w.elections e) same in_e)))
   where
     go : (b : Bool) → (e.term == d.term) ≡ b → Contains h.elections e → BookGoes h (with_book h d.term (d.log ++ x ∷ [])) (d.log ++ x ∷ []) e
     go true y c = inr (rw y refl)
     go false y c = inl (c, rw y refl)
 guarded_books ring id h g d a (Raises t is up low same) e in_e = book_stays h g (done d a).log same e in_e
-guarded_books ring id h g d a (Votes c floor is may same) e in_e = inl (subst (λ (w : History). Contains w.elections e) same in_e, ap (λ (w : History). w.book e.term) same)
+guarded_books ring id h g d a (Votes c floor is may same) e in_e =
+    inl (subst (λ (w : History). Contains w.elections e) same in_e, ap (λ (w : History). w.book e.term) same)
 guarded_books ring id h g d a (Cuts p is may same) e in_e = book_stays h g (done d a).log same e in_e
 guarded_books ring id h g d a (Extends es is may same) e in_e = book_stays h g (done d a).log same e in_e
 guarded_books ring id h g d a (Applies p is s may same) e in_e = book_stays h g (done d a).log same e in_e
@@ -145,25 +150,35 @@ reach_less h id t p q le (inr led) = inr led
 
 guarded_leads : (ring : Layout) (id : ℕ) (h g : History) (d : Durable) (a : Action) → Guarded ring id h d a g → (e : Election) → Contains h.elections e
     → Contains g.elections e
-guarded_leads ring id h g d a move e in_e = subst (λ (l : List Election). Contains l e) (sym (guarded_elections ring id h g d a move)) (Contains-append_left h.elections (elects ring id h g d a move) e in_e)
+guarded_leads ring id h g d a move e in_e =
+    subst (λ (l : List Election). Contains l e) (sym (guarded_elections ring id h g d a move))
+    (Contains-append_left h.elections (elects ring id h g d a move) e in_e)
 
 guarded_reaches : (ring : Layout) (id : ℕ) (h g : History) (d : Durable) (a : Action) → Guarded ring id h d a g → MayReach h id d.term d.applied
     → MayReach g id (done d a).term (done d a).applied
-guarded_reaches ring id h g d a (Raises t is up low same) x = inl (omega (arith, low, ap (λ (w : Action). (done d w).applied) is, ap (λ (w : History). length w.chosen) same))
+guarded_reaches ring id h g d a (Raises t is up low same) x =
+    inl (omega (arith, low, ap (λ (w : Action). (done d w).applied) is, ap (λ (w : History). length w.chosen) same))
 guarded_reaches ring id h g d a (Applies p is s may same) x =
-    reach_on h g id d.term (done d a).term p (done d a).applied (guarded_still ring id h g d a (Applies p is s may same)).1 (guarded_leads ring id h g d a (Applies p is s may same)) (ap (λ (w : Action). (done d w).term) is) (ap (λ (w : Action). (done d w).applied) is) may
+    reach_on h g id d.term (done d a).term p (done d a).applied (guarded_still ring id h g d a (Applies p is s may same)).1
+    (guarded_leads ring id h g d a (Applies p is s may same)) (ap (λ (w : Action). (done d w).term) is) (ap (λ (w : Action). (done d w).applied) is) may
 guarded_reaches ring id h g d a (Engine s same) x =
-    reach_on h g id d.term (done d a).term d.applied (done d a).applied (guarded_still ring id h g d a (Engine s same)).1 (guarded_leads ring id h g d a (Engine s same)) s.term s.applied x
+    reach_on h g id d.term (done d a).term d.applied (done d a).applied (guarded_still ring id h g d a (Engine s same)).1
+    (guarded_leads ring id h g d a (Engine s same)) s.term s.applied x
 guarded_reaches ring id h g d a (Votes c floor is may same) x =
-    reach_on h g id d.term (done d a).term d.applied (done d a).applied (guarded_still ring id h g d a (Votes c floor is may same)).1 (guarded_leads ring id h g d a (Votes c floor is may same)) (ap (λ (w : Action). (done d w).term) is) (ap (λ (w : Action). (done d w).applied) is) x
+    reach_on h g id d.term (done d a).term d.applied (done d a).applied (guarded_still ring id h g d a (Votes c floor is may same)).1
+    (guarded_leads ring id h g d a (Votes c floor is may same)) (ap (λ (w : Action). (done d w).term) is) (ap (λ (w : Action). (done d w).applied) is) x
 guarded_reaches ring id h g d a (Leads e y is may same) x =
-    reach_on h g id d.term (done d a).term d.applied (done d a).applied (guarded_still ring id h g d a (Leads e y is may same)).1 (guarded_leads ring id h g d a (Leads e y is may same)) (ap (λ (w : Action). (done d w).term) is) (ap (λ (w : Action). (done d w).applied) is) x
+    reach_on h g id d.term (done d a).term d.applied (done d a).applied (guarded_still ring id h g d a (Leads e y is may same)).1
+    (guarded_leads ring id h g d a (Leads e y is may same)) (ap (λ (w : Action). (done d w).term) is) (ap (λ (w : Action). (done d w).applied) is) x
 guarded_reaches ring id h g d a (Adds e y is may same) x =
-    reach_on h g id d.term (done d a).term d.applied (done d a).applied (guarded_still ring id h g d a (Adds e y is may same)).1 (guarded_leads ring id h g d a (Adds e y is may same)) (ap (λ (w : Action). (done d w).term) is) (ap (λ (w : Action). (done d w).applied) is) x
+    reach_on h g id d.term (done d a).term d.applied (done d a).applied (guarded_still ring id h g d a (Adds e y is may same)).1
+    (guarded_leads ring id h g d a (Adds e y is may same)) (ap (λ (w : Action). (done d w).term) is) (ap (λ (w : Action). (done d w).applied) is) x
 guarded_reaches ring id h g d a (Cuts y is may same) x =
-    reach_on h g id d.term (done d a).term d.applied (done d a).applied (guarded_still ring id h g d a (Cuts y is may same)).1 (guarded_leads ring id h g d a (Cuts y is may same)) (ap (λ (w : Action). (done d w).term) is) (ap (λ (w : Action). (done d w).applied) is) x
+    reach_on h g id d.term (done d a).term d.applied (done d a).applied (guarded_still ring id h g d a (Cuts y is may same)).1
+    (guarded_leads ring id h g d a (Cuts y is may same)) (ap (λ (w : Action). (done d w).term) is) (ap (λ (w : Action). (done d w).applied) is) x
 guarded_reaches ring id h g d a (Extends y is may same) x =
-    reach_on h g id d.term (done d a).term d.applied (done d a).applied (guarded_still ring id h g d a (Extends y is may same)).1 (guarded_leads ring id h g d a (Extends y is may same)) (ap (λ (w : Action). (done d w).term) is) (ap (λ (w : Action). (done d w).applied) is) x
+    reach_on h g id d.term (done d a).term d.applied (done d a).applied (guarded_still ring id h g d a (Extends y is may same)).1
+    (guarded_leads ring id h g d a (Extends y is may same)) (ap (λ (w : Action). (done d w).term) is) (ap (λ (w : Action). (done d w).applied) is) x
 
 pub path_reaches : (ring : Layout) (id : ℕ) (h g : History) (d : Durable) (steps : List Action) → Path ring id h d steps g → MayReach h id d.term d.applied
     → MayReach g id (all_done d steps).term (all_done d steps).applied

@@ -107,8 +107,22 @@ sends_all ring id d h (m ∷ ms) k n each =
     (rest.0, Sends_on {m = m} x.sent may rest.1)
 
 -- ---- rows
+-- a step that only tells
+pub said_row : (ring : Layout) (h : History) (id : ℕ) (d : Durable) (s : Soft) (says : List Say) → IsRunning ring h id d s → IsRow ring h id d s (stepped [] [] says s)
+said_row ring h id d s says r = record {
+  acted = h;
+  path = Ends;
+  sent = h;
+  sends = Sent_all;
+  role = r.role;
+  sealed = r.sealed;
+  applied = r.applied;
+  reaches = inl r.chosen;
+  holding = stays_holding ring id h d s s refl;
+}
+
 pub idle_row : (ring : Layout) (h : History) (id : ℕ) (d : Durable) (s : Soft) → IsRunning ring h id d s → IsRow ring h id d s (idle s)
-idle_row ring h id d s r = record { acted = h; path = Ends; sent = h; sends = Sent_all; role = r.role; sealed = r.sealed; applied = r.applied; reaches = inl r.chosen; holding = stays_holding ring id h d s s refl }
+idle_row ring h id d s r = said_row ring h id d s [] r
 
 -- a step without actions that keeps role and commit count
 pub plain_row : (ring : Layout) (h : History) (id : ℕ) (d : Durable) (s o : Soft) (ms : List Message) (says : List Say) → IsHistory ring h

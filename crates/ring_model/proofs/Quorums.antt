@@ -6,7 +6,8 @@ use Rattle.std.specs.List.{Contains, count_by}
 use Rattle.ring_types.specs.declared.members.Member.{Member}
 use Rattle.ring_types.specs.Rings.{Layout, is_voter, voters_of}
 use Rattle.ring_model.specs.Quorums.{is_listed, has_majority, InZone, CommitMeetsCover, CoversMeet}
-use Rattle.ring_model.proofs.Lists.{in_cons, filter_of, filter_true, listed_contains, contains_listed, both_true}
+use Rattle.ring_types.proofs.Booleans.{both_true}
+use Rattle.ring_model.proofs.Lists.{in_cons, filter_of, filter_true, listed_contains, contains_listed}
 
 count_cons : {X : Type 0} (p : X → Bool) (x : X) (xs : List X) (b : Bool) → p x ≡ b → count_by p (x ∷ xs) ≡ (if b then 1 else 0) + count_by p xs
 count_cons p x xs b is = let c = sum_by-cons (λ y. if p y then 1 else 0) x xs in c ∙ ap (λ (a : Bool). (if a then 1 else 0) + count_by p xs) is

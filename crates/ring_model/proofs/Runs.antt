@@ -32,7 +32,8 @@ run_over ring w h [] k = record {
 }
 run_over ring w h (m ∷ run) k =
     let x = event_over ring w h m k in
-    carried_join ring w (world_step ring w m.event m.completion) (world_from ring (world_step ring w m.event m.completion) run) h (event_elections ring w m) (elections_from ring (world_step ring w m.event m.completion) run) (acting w m.event.what) x
+    carried_join ring w (world_step ring w m.event m.completion) (world_from ring (world_step ring w m.event m.completion) run) h (event_elections ring w m)
+    (elections_from ring (world_step ring w m.event m.completion) run) (acting w m.event.what) x
     (run_over ring (world_step ring w m.event m.completion) x.joined.after run x.joined.world)
 
 world_join : (ring : Layout) (w : WorldState) (before after : List Move)
@@ -48,7 +49,8 @@ pub record Reached (ring : Layout) (run : List Move) : Type 0 where
 
 pub reached : (ring : Layout) (run : List Move) → IsRing ring → Reached ring run
 unfolding world elections
-reached ring run valid = let x = run_over ring first_world first_history run (first_holds ring valid) in record { history = x.after; world = x.world; elections = x.elections }
+reached ring run valid =
+    let x = run_over ring first_world first_history run (first_holds ring valid) in record { history = x.after; world = x.world; elections = x.elections }
 
 -- two worlds of one run, the second the later
 record TwoWorlds (ring : Layout) (before run : List Move) : Type 0 where
@@ -64,7 +66,8 @@ unfolding world
 two_worlds ring before after run valid is =
     let x = run_over ring first_world first_history before (first_holds ring valid) in
     let y = run_over ring (world_from ring first_world before) x.after after x.world in
-    let same : world_from ring (world_from ring first_world before) after ≡ world_from ring first_world run = sym (world_join ring first_world before after) ∙ ap (world_from ring first_world) (sym is) in
+    let same : world_from ring (world_from ring first_world before) after ≡ world_from ring first_world run =
+    sym (world_join ring first_world before after) ∙ ap (world_from ring first_world) (sym is) in
     record {
       old = x.after;
       old_world = x.world;
@@ -92,19 +95,23 @@ one_leader_a_term ring run valid =
     let x = reached ring run valid in
     record {
       once = λ j k e f at_j at_k same. x.world.history.terms_once j k e f
-          (subst (λ (l : List Election). slice_get l j ≡ Some e) (sym x.elections) at_j) (subst (λ (l : List Election). slice_get l k ≡ Some f) (sym x.elections) at_k) same;
+          (subst (λ (l : List Election). slice_get l j ≡ Some e) (sym x.elections) at_j)
+          (subst (λ (l : List Election). slice_get l k ≡ Some f) (sym x.elections) at_k) same;
       elected = λ id s leads. let l = leader_in ring (world ring run) x.history id s x.world leads in
           (l.election, subst (λ (es : List Election). Contains es l.election) x.elections l.led, l.by, l.of_term);
     }
 
 told_stand : (ring : Layout) (run : List Move) → IsRing ring → ToldStands (world ring run)
 unfolding world
-told_stand ring run valid = let x = run_over ring first_world first_history run (first_holds ring valid) in told_stands ring (world_from ring first_world run) x.after x.world (x.told (first_told ring))
+told_stand ring run valid =
+    let x = run_over ring first_world first_history run (first_holds ring valid) in
+    told_stands ring (world_from ring first_world run) x.after x.world (x.told (first_told ring))
 
 logs_match : (ring : Layout) (run : List Move) → IsRing ring → LogsMatch (world ring run)
 logs_match ring run valid i j position some in_i in_j same =
     let x = reached ring run valid in
-    log_match ring x.history ((world ring run).nodes i).durable.term ((world ring run).nodes j).durable.term position ((world ring run).nodes i).durable.log ((world ring run).nodes j).durable.log
+    log_match ring x.history ((world ring run).nodes i).durable.term ((world ring run).nodes j).durable.term position ((world ring run).nodes i).durable.log
+    ((world ring run).nodes j).durable.log
     (x.world.nodes i).log (x.world.nodes j).log some in_i in_j same
 
 chosen_grows : (ring : Layout) (run : List Move) → IsRing ring → ChosenOnlyGrows ring run

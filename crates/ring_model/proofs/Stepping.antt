@@ -45,7 +45,8 @@ held_in_cut ring id h g d s st path count (Leads_not led none) = quiet_cut ring 
     go : (b : Bool) → is_leader s.role ≡ b → held_by id d s st (Cut count) ≡ []
     go true is = rw is refl
     go false is = rw (is, led) refl
-held_in_cut ring id h g d s st path count (Leads_now was is held) = held_cut ring id h g d st.plan.actions st.soft.grants count path held ∙ sym (rw (was, is) refl)
+held_in_cut ring id h g d s st path count (Leads_now was is held) =
+    held_cut ring id h g d st.plan.actions st.soft.grants count path held ∙ sym (rw (was, is) refl)
 
 held_in_whole : (ring : Layout) (id : ℕ) (h g : History) (d : Durable) (s : Soft) (st : Step) (path : Path ring id h d st.plan.actions g)
     → Holding ring id h g d s st.soft st.plan.actions path
@@ -85,11 +86,14 @@ whole_keeps ring w h id s st k row =
       messages = q.3 ∙ ap (λ (m : List Message). m ++ st.plan.messages) (path_messages ring id h row.acted d st.plan.actions row.path ∙ k.messages);
       chosen = q.4 ∙ path_chosen ring id h row.acted d st.plan.actions row.path;
       elections = q.5 ∙ (path_elections ring id h row.acted d st.plan.actions row.path ∙ ap (λ (e : List Election). h.elections ++ e) (held_in_whole ring id h row.acted d s st row.path row.holding));
-      reaches = reach_on row.acted row.sent id (all_done d st.plan.actions).term (all_done d st.plan.actions).term st.soft.commit st.soft.commit q.4 (λ e in_e. subst (λ (l : List Election). Contains l e) (sym q.5) in_e) refl refl row.reaches;
+      reaches = reach_on row.acted row.sent id (all_done d st.plan.actions).term (all_done d st.plan.actions).term st.soft.commit st.soft.commit q.4
+          (λ e in_e. subst (λ (l : List Election). Contains l e) (sym q.5) in_e) refl refl row.reaches;
       reached = row.sealed;
       inside = seal_within ring row.sent (all_done d st.plan.actions).term st.soft.commit (all_done d st.plan.actions).log row.sealed;
       applied = row.applied;
-      books = same_books h row.acted row.sent d st.plan.actions (sends_books ring id (all_done d st.plan.actions) row.acted row.sent st.plan.messages row.sends) q.5 (path_books ring id h row.acted d st.plan.actions row.path);
+      books = same_books h row.acted row.sent d st.plan.actions
+          (sends_books ring id (all_done d st.plan.actions) row.acted row.sent st.plan.messages row.sends) q.5
+          (path_books ring id h row.acted d st.plan.actions row.path);
       role = λ o so. let is : st.soft ≡ o = cc in subst (λ (x : Soft). HasRole row.sent id (all_done d st.plan.actions) x x.role) is row.role;
     })
 
@@ -109,10 +113,12 @@ cut_keeps ring w h id count s st k row =
       grows = p.grows;
       messages = path_messages ring id h c.0 d (take count st.plan.actions) c.1 ∙ (k.messages ∙ sym (append-nil w.messages));
       chosen = path_chosen ring id h c.0 d (take count st.plan.actions) c.1;
-      elections = path_elections ring id h c.0 d (take count st.plan.actions) c.1 ∙ ap (λ (e : List Election). h.elections ++ e) (held_in_cut ring id h row.acted d s st row.path count row.holding);
+      elections = path_elections ring id h c.0 d (take count st.plan.actions) c.1
+          ∙ ap (λ (e : List Election). h.elections ++ e) (held_in_cut ring id h row.acted d s st row.path count row.holding);
       reaches = path_reaches ring id h c.0 d (take count st.plan.actions) c.1 (inl (k.applied id));
       reached = p.node.applied;
-      inside = seal_within ring c.0 (all_done d (take count st.plan.actions)).term (all_done d (take count st.plan.actions)).applied (all_done d (take count st.plan.actions)).log p.node.applied;
+      inside = seal_within ring c.0 (all_done d (take count st.plan.actions)).term (all_done d (take count st.plan.actions)).applied
+          (all_done d (take count st.plan.actions)).log p.node.applied;
       applied = omega arith;
       role = λ o so. absurd cc;
     })

@@ -50,7 +50,8 @@ follow_at ring h id d e l s x = record {
 }
 
 module _ (ring : Layout) (h : History) (id : ℕ) (e : Durable) (k : IsHistory ring h) (n : IsNode ring h id e)
-    (leader : ℕ) (prev : Opid) (mc : ℕ) (es : List Entry) (s : IsStretch ring h e.term leader prev mc (length es)) (win : take (length es) (drop prev.position (h.book e.term)) ≡ es)
+    (leader : ℕ) (prev : Opid) (mc : ℕ) (es : List Entry) (s : IsStretch ring h e.term leader prev mc (length es))
+    (win : take (length es) (drop prev.position (h.book e.term)) ≡ es)
     (foreign : leader ≡ id → ⊥) (a : Agree prev.position e.log (h.book e.term)) (c : ℕ) (sealed : IsSealed ring h e.term c e.log) where
   -- the log with what it did not keep: everything up to a conflict stays
   final_follows : (kept : ℕ) (rest : List Entry) → kept ≤ length e.log
@@ -126,12 +127,16 @@ module _ (ring : Layout) (h : History) (id : ℕ) (e : Durable) (k : IsHistory r
           let b : Durable = all_done f (roll_back ring id m.kept) in
           let j = done_join f (roll_back ring id m.kept) (action.Append (x ∷ rest) ∷ []) in
           let l_is : b.log ≡ take m.kept e.log = r.same.log in
-          let to : MayFollow ring h id b (b.log ++ (x ∷ rest)) = subst (λ (l : List Entry). MayFollow ring h id b (l ++ (x ∷ rest))) (sym l_is) (follow_at ring h id f b (take m.kept e.log ++ (x ∷ rest)) r.same may_add) in
+          let to : MayFollow ring h id b (b.log ++ (x ∷ rest)) =
+          subst (λ (l : List Entry). MayFollow ring h id b (l ++ (x ∷ rest))) (sym l_is)
+          (follow_at ring h id f b (take m.kept e.log ++ (x ∷ rest)) r.same may_add) in
           let log_is : (all_done e (action.Truncate m.kept ∷ (roll_back ring id m.kept ++ (action.Append (x ∷ rest) ∷ [])))).log ≡ take m.kept e.log ++ (x ∷ rest) =
           ap (λ (w : Durable). w.log) j ∙ ap (λ (l : List Entry). l ++ (x ∷ rest)) l_is in
           record {
-            path = Goes_on (Cuts m.kept refl may_cut refl) (path_join ring id h h h f (roll_back ring id m.kept) (action.Append (x ∷ rest) ∷ []) r.path (Goes_on (Extends (x ∷ rest) refl to refl) Ends));
-            quiet = quiet_join ring id h h h f (roll_back ring id m.kept) (action.Append (x ∷ rest) ∷ []) r.path (Goes_on (Extends (x ∷ rest) refl to refl) Ends) r.quiet refl;
+            path = Goes_on (Cuts m.kept refl may_cut refl)
+                (path_join ring id h h h f (roll_back ring id m.kept) (action.Append (x ∷ rest) ∷ []) r.path (Goes_on (Extends (x ∷ rest) refl to refl) Ends));
+            quiet = quiet_join ring id h h h f (roll_back ring id m.kept) (action.Append (x ∷ rest) ∷ []) r.path
+                (Goes_on (Extends (x ∷ rest) refl to refl) Ends) r.quiet refl;
             term = ap (λ (w : Durable). w.term) j ∙ r.same.term;
             applied = ap (λ (w : Durable). w.applied) j ∙ r.same.applied;
             agrees = subst (λ (l : List Entry). Agree (prev.position + length es) l (h.book e.term)) (sym log_is) new_agrees;
@@ -142,7 +147,8 @@ module _ (ring : Layout) (h : History) (id : ℕ) (e : Durable) (k : IsHistory r
           → TakenIn ring id h e (take_in ring id e (kept_position prev es (x ∷ rest)) (x ∷ rest)) (prev.position + length es) c
       go true y = rw y (rw kept_is cut)
       go false y =
-          let all : take m.kept e.log ≡ e.log = (let z : length e.log ≤ kept_position prev es (x ∷ rest) = grind (arith, nat_tests, y) in take_all m.kept e.log (omega (arith, kept_is, z))) in
+          let all : take m.kept e.log ≡ e.log =
+          (let z : length e.log ≤ kept_position prev es (x ∷ rest) = grind (arith, nat_tests, y) in take_all m.kept e.log (omega (arith, kept_is, z))) in
           rw y (record {
             path = Goes_on (Extends (x ∷ rest) refl (record {
               leader = s.election;

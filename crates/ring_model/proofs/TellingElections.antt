@@ -49,7 +49,9 @@ unfolding lead_or_ask
 ask_tells ring me d s first says grants asks none other = go (has_won ring me (all_done d first) grants)
   where
     go : (b : Bool) → Tells d (if b then lead ring me d s first says grants else stepped first asks says (record s { role = Candidate; grants = grants }))
-    go true = advance_tells ring me d (leading ring me (suc (length (all_done d first).log)) s grants) (first ++ (action.Append (own_entry ring me (all_done d first) payload.NoOp ∷ []) ∷ [])) says refl
+    go true =
+        advance_tells ring me d (leading ring me (suc (length (all_done d first).log)) s grants)
+        (first ++ (action.Append (own_entry ring me (all_done d first) payload.NoOp ∷ []) ∷ [])) says refl
         (λ p in_p. absurd (none_contained p (subst (λ (ps : List Pending). Contains ps p) none in_p))) other
     go false = empty_tells d (record s { role = Candidate; grants = grants }) first asks says none other
 
@@ -58,7 +60,9 @@ unfolding elect
 elect_tells ring me d s k = go (may_elect ring me d s)
   where
     go : (b : Bool) → Tells d (if b then stand ring me d s else idle s)
-    go true = ask_tells ring me d (demoted s) (stand_actions ring me d s) (unknowns s) (own_grant me (all_done d (stand_actions ring me d s)) ∷ []) (requests me (suc d.term) (last d.log) ring.members) refl (unknowns_other s)
+    go true =
+        ask_tells ring me d (demoted s) (stand_actions ring me d s) (unknowns s) (own_grant me (all_done d (stand_actions ring me d s)) ∷ [])
+        (requests me (suc d.term) (last d.log) ring.members) refl (unknowns_other s)
     go false = idle_tells d s k
 
 pub timeout_tells : (ring : Layout) (me : ℕ) (d : Durable) (s : Soft) (term : ℕ) → KeepsPending d.log s → Tells d (on_timeout ring me d s term)
@@ -86,7 +90,9 @@ answer_tells ring me d s first says from asked k log other = go (vote_in d.votes
     kept false = refuses
 
     fresh : (a b : Bool) → Tells d (if a then (if b then granted_now me d s (cast_actions ring d s first from asked.term) says from asked else refused_now me s first says from asked.term) else refused_now me s first says from asked.term)
-    fresh true true = same_tells d s s (cast_actions ring d s first from asked.term) (grant_vote me from asked (all_done d (cast_actions ring d s first from asked.term)) ∷ []) says k cast_log refl refl other
+    fresh true true =
+        same_tells d s s (cast_actions ring d s first from asked.term)
+        (grant_vote me from asked (all_done d (cast_actions ring d s first from asked.term)) ∷ []) says k cast_log refl refl other
     fresh true false = refuses
     fresh false b = refuses
 
@@ -106,7 +112,8 @@ request_tells ring me from d s asked k = go (votes ring me) (nat_lt asked.term d
         else (if b then answer_request ring me d (demoted s) (action.SetTerm asked.term ∷ []) (unknowns s) from asked else answer_request ring me d s [] [] from asked)) else idle s)
     go false a b = idle_tells d s k
     go true true b = same_tells d s s [] (refuse_vote me from d.term ∷ []) [] k refl refl refl no_says
-    go true false true = answer_tells ring me d (demoted s) (action.SetTerm asked.term ∷ []) (unknowns s) from asked (demoted_keeps d.log s) refl (unknowns_other s)
+    go true false true =
+        answer_tells ring me d (demoted s) (action.SetTerm asked.term ∷ []) (unknowns s) from asked (demoted_keeps d.log s) refl (unknowns_other s)
     go true false false = answer_tells ring me d s [] [] from asked k refl no_says
 
 pub reply_tells : (ring : Layout) (me from : ℕ) (d : Durable) (s : Soft) (reply : VoteReply) → KeepsPending d.log s → Tells d (on_reply ring me d s from reply)
@@ -121,7 +128,8 @@ reply_tells ring me from d s reply k = go s.role refl (nat_lt d.term reply.term)
     go Follower is a b = idle_tells d s k
     go Leader is a b = idle_tells d s k
     go Candidate is true b = empty_tells d (demoted s) (action.SetTerm reply.term ∷ []) [] (unknowns s) refl (unknowns_other s)
-    go Candidate is false true = ask_tells ring me d s [] [] (s.grants ++ record { voter = from; votes = reply.votes } ∷ []) [] (k.none (ap is_leader is)) no_says
+    go Candidate is false true =
+        ask_tells ring me d s [] [] (s.grants ++ record { voter = from; votes = reply.votes } ∷ []) [] (k.none (ap is_leader is)) no_says
     go Candidate is false false = idle_tells d s k
 
 -- ---- the mock election
@@ -131,7 +139,9 @@ unfolding on_mock_start
 mock_start_tells ring me from d s sent k = go (sent.term == d.term && votes ring me && is_follower s.role && not (is_old_round s.mock from sent.round))
   where
     go : (b : Bool) → Tells d (if b then begin_mock ring me d s from sent else idle s)
-    go true = same_tells d s (record s { mock = mock.On from sent.round sent.last (own_passed me d sent) (own_failed me d sent) }) [] (opening ring me d from sent) [] k refl refl refl no_says
+    go true =
+        same_tells d s (record s { mock = mock.On from sent.round sent.last (own_passed me d sent) (own_failed me d sent) }) []
+        (opening ring me d from sent) [] k refl refl refl no_says
     go false = idle_tells d s k
 
 pub mock_request_tells : (ring : Layout) (me from : ℕ) (d : Durable) (s : Soft) (sent : MockRequest) → KeepsPending d.log s
@@ -140,14 +150,16 @@ unfolding on_mock_request
 mock_request_tells ring me from d s sent k = go (sent.term == d.term && votes ring me)
   where
     go : (b : Bool) → Tells d (if b then stepped [] (message me from (body.MockReply (record { term = d.term; round = sent.round; ok = passes d sent.last })) ∷ []) [] s else idle s)
-    go true = same_tells d s s [] (message me from (body.MockReply (record { term = d.term; round = sent.round; ok = passes d sent.last })) ∷ []) [] k refl refl refl no_says
+    go true =
+        same_tells d s s [] (message me from (body.MockReply (record { term = d.term; round = sent.round; ok = passes d sent.last })) ∷ []) [] k refl refl refl no_says
     go false = idle_tells d s k
 
 with_answer_tells : (ring : Layout) (me : ℕ) (d : Durable) (s : Soft) (leader round : ℕ) (asked : Opid) (passed failed more_passed more_failed : List ℕ)
     → KeepsPending d.log s
     → Tells d (with_answer ring me d s leader round asked passed failed more_passed more_failed)
 with_answer_tells ring me d s leader round asked passed failed more_passed more_failed k =
-    same_tells d s (record s { mock = mock.On leader round asked more_passed more_failed }) [] (deciding me leader d.term round (verdict ring leader me passed failed) (verdict ring leader me more_passed more_failed)) [] k refl refl refl no_says
+    same_tells d s (record s { mock = mock.On leader round asked more_passed more_failed }) []
+    (deciding me leader d.term round (verdict ring leader me passed failed) (verdict ring leader me more_passed more_failed)) [] k refl refl refl no_says
 
 mock_tells : (ring : Layout) (me from : ℕ) (d : Durable) (s : Soft) (answer : MockReply) (held : Mock) → KeepsPending d.log s
     → Tells d (mock_hears ring me d s from answer held)
@@ -169,7 +181,8 @@ mock_reply_tells ring me from d s answer k = mock_tells ring me from d s answer 
 
 result_tells : (me : ℕ) (d : Durable) (s : Soft) (ok : Bool) (target client : ℕ) → KeepsPending d.log s → Tells d (result_heard me d s ok target client)
 result_tells me d s true target client k =
-    same_tells d s (record s { transfer = transfer.Handing target client }) [] (hand_over me d s.peers target) (record { client = client; what = what.Moving target } ∷ []) k refl refl refl
+    same_tells d s (record s { transfer = transfer.Handing target client }) [] (hand_over me d s.peers target)
+    (record { client = client; what = what.Moving target } ∷ []) k refl refl refl
     (one_say (record { client = client; what = what.Moving target }) (λ g o t is. absurd cc))
 result_tells me d s false target client k =
     same_tells d s (record s { transfer = transfer.Off }) [] [] (record { client = client; what = what.MoveFailed target } ∷ []) k refl refl refl

@@ -93,7 +93,9 @@ ack_tells ring me from d s answer k = go (nat_lt d.term answer.term) s.role refl
         → Tells d (if a then stepped (action.SetTerm answer.term ∷ []) [] (unknowns s) (demoted s) else (if b then leader_hears ring me d s from answer else idle s))
     go true o is u b c = empty_tells d (demoted s) (action.SetTerm answer.term ∷ []) [] (unknowns s) refl (unknowns_other s)
     go false o is u false c = idle_tells d s k
-    go false o is u true c = advance_tells ring me d (record s { peers = heard_among s.peers from answer.ok answer.position }) [] [] (ap is_leader (counted d s answer c).leads) k.each no_says
+    go false o is u true c =
+        advance_tells ring me d (record s { peers = heard_among s.peers from answer.ok answer.position }) [] []
+        (ap is_leader (counted d s answer c).leads) k.each no_says
 
 pub answered_tells : (ring : Layout) (me from : ℕ) (d : Durable) (s : Soft) (answer : AppendReply) → KeepsPending d.log s
     → Tells d (on_answer ring me d s from answer)
@@ -106,11 +108,14 @@ answered_tells ring me from d s answer k = go (counts d s answer && answer.ok)
 
 pub relay_tells : (me from : ℕ) (d : Durable) (s : Soft) (sent : ProxyAppend) → KeepsPending d.log s → Tells d (relay me d s from sent)
 unfolding relay
-relay_tells me from d s sent k = same_tells d s s [] (message me sent.target (body.Append (record { term = sent.term; leader = from; prev = sent.prev; commit = sent.commit; entries = found d.log sent.opids })) ∷ []) [] k refl refl refl no_says
+relay_tells me from d s sent k =
+    same_tells d s s [] (message me sent.target (body.Append (record { term = sent.term; leader = from; prev = sent.prev; commit = sent.commit; entries = found d.log sent.opids })) ∷ []) [] k refl refl refl no_says
 
 -- ---- a client's words
 refused_tells : (d : Durable) (s : Soft) (client : ℕ) (c : Cause) → KeepsPending d.log s → Tells d (refused s client c)
-refused_tells d s client c k = same_tells d s s [] [] (record { client = client; what = what.Refused c } ∷ []) k refl refl refl (one_say (record { client = client; what = what.Refused c }) (λ g o t is. absurd cc))
+refused_tells d s client c k =
+    same_tells d s s [] [] (record { client = client; what = what.Refused c } ∷ []) k refl refl refl
+    (one_say (record { client = client; what = what.Refused c }) (λ g o t is. absurd cc))
 
 more_stands : (l r : List Entry) (gtid : Gtid) (opid : Opid) → IsEntryFor l gtid opid → IsEntryFor (l ++ r) gtid opid
 more_stands l r gtid opid x = record { entry = x.entry; at = entry_more l r opid.position x.entry x.at; named = x.named; numbered = x.numbered }
@@ -127,7 +132,8 @@ write_tells ring me client d s changes k = go (write_refusal ring me d s changes
         let e : Entry = write_entry ring me d changes in
         let t : Txn = write_txn ring me d changes in
         let new : Pending = record { client = client; gtid = t.gtid; opid = e.opid } in
-        advance_tells ring me d (awaits s client e t.gtid) (action.Prepare (record { opid = e.opid; txn = t }) ∷ action.Append (e ∷ []) ∷ []) [] (ap is_leader (write_leads ring me d s changes is))
+        advance_tells ring me d (awaits s client e t.gtid) (action.Prepare (record { opid = e.opid; txn = t }) ∷ action.Append (e ∷ []) ∷ []) []
+        (ap is_leader (write_leads ring me d s changes is))
         (λ p in_p. elim (Contains-push_cases s.pending new p in_p) [
           | inl old ↦ more_stands d.log (e ∷ []) p.gtid p.opid (k.each p old)
           | inr here ↦ subst (λ (w : Pending). IsEntryFor (d.log ++ e ∷ []) w.gtid w.opid) here (record { entry = e; at = get_end d.log e; named = refl; numbered = refl })
@@ -142,8 +148,10 @@ rotate_tells ring me client d s k = go (rotate_refusal ring me d s) refl
     go (Some c) is = refused_tells d s client c k
     go None is =
         let e : Entry = own_entry ring me d payload.Rotate in
-        advance_tells ring me d s (action.Append (e ∷ []) ∷ []) (record { client = client; what = what.Rotated e.opid } ∷ []) (ap is_leader (rotate_leads ring me d s is))
-        (λ p in_p. more_stands d.log (e ∷ []) p.gtid p.opid (k.each p in_p)) (one_say (record { client = client; what = what.Rotated e.opid }) (λ g o t is. absurd cc))
+        advance_tells ring me d s (action.Append (e ∷ []) ∷ []) (record { client = client; what = what.Rotated e.opid } ∷ [])
+        (ap is_leader (rotate_leads ring me d s is))
+        (λ p in_p. more_stands d.log (e ∷ []) p.gtid p.opid (k.each p in_p))
+        (one_say (record { client = client; what = what.Rotated e.opid }) (λ g o t is. absurd cc))
 
 pub transfer_tells : (ring : Layout) (me client target : ℕ) (d : Durable) (s : Soft) → KeepsPending d.log s → Tells d (ask_transfer ring me d s client target)
 unfolding ask_transfer
@@ -151,7 +159,9 @@ transfer_tells ring me client target d s k = go (transfer_refusal ring me s targ
   where
     go : (c : Option Cause) → Tells d (elim c [ Some c ↦ refused s client c | None ↦ begin_round me d s client target ])
     go (Some c) = refused_tells d s client c k
-    go None = same_tells d s (record s { rounds = suc s.rounds; transfer = transfer.Mock target (suc s.rounds) client }) [] (message me target (body.MockStart (record { term = d.term; round = suc s.rounds; last = last d.log })) ∷ []) [] k refl refl refl no_says
+    go None =
+        same_tells d s (record s { rounds = suc s.rounds; transfer = transfer.Mock target (suc s.rounds) client }) []
+        (message me target (body.MockStart (record { term = d.term; round = suc s.rounds; last = last d.log })) ∷ []) [] k refl refl refl no_says
 
 pub cancel_tells : (d : Durable) (s : Soft) (client : ℕ) → KeepsPending d.log s → Tells d (cancel s client)
 unfolding cancel
@@ -159,4 +169,6 @@ cancel_tells d s client k = go (is_off s.transfer)
   where
     go : (b : Bool) → Tells d (if b then idle s else stepped [] [] (record { client = client; what = what.Cancelled } ∷ []) (record s { transfer = transfer.Off }))
     go true = idle_tells d s k
-    go false = same_tells d s (record s { transfer = transfer.Off }) [] [] (record { client = client; what = what.Cancelled } ∷ []) k refl refl refl (one_say (record { client = client; what = what.Cancelled }) (λ g o t is. absurd cc))
+    go false =
+        same_tells d s (record s { transfer = transfer.Off }) [] [] (record { client = client; what = what.Cancelled } ∷ []) k refl refl refl
+        (one_say (record { client = client; what = what.Cancelled }) (λ g o t is. absurd cc))

@@ -57,7 +57,8 @@ pub no_says : AreOther []
 no_says x in_x gtid opid term is = none_contained x in_x
 
 pub one_say : (y : Say) → ((gtid : Gtid) (opid : Opid) (term : ℕ) → y.what ≡ what.Committed gtid opid term → ⊥) → AreOther (y ∷ [])
-one_say y other x in_x gtid opid term is = elim (cons_cases y [] x in_x) [ inl here ↦ other gtid opid term (ap (λ (w : Say). w.what) here ∙ is) | inr there ↦ none_contained x there ]
+one_say y other x in_x gtid opid term is =
+    elim (cons_cases y [] x in_x) [ inl here ↦ other gtid opid term (ap (λ (w : Say). w.what) here ∙ is) | inr there ↦ none_contained x there ]
 
 pub unknowns_other : (s : Soft) → AreOther (unknowns s)
 unknowns_other s x in_x gtid opid term is =
@@ -138,7 +139,8 @@ advance_tells ring me d s first says leads each other =
     record {
       pending = record {
         none = λ is. absurd (let z : true ≡ false = sym leads ∙ is in cc);
-        each = λ p in_p. subst (λ (w : Durable). IsEntryFor w.log p.gtid p.opid) (sym j) (subst (λ (l : List Entry). IsEntryFor l p.gtid p.opid) (sym f.log) (each p (filter_of (λ (q : Pending). not (is_settled c q)) s.pending p in_p)));
+        each = λ p in_p. subst (λ (w : Durable). IsEntryFor w.log p.gtid p.opid) (sym j)
+            (subst (λ (l : List Entry). IsEntryFor l p.gtid p.opid) (sym f.log) (each p (filter_of (λ (q : Pending). not (is_settled c q)) s.pending p in_p)));
       };
       says = λ x in_x gtid opid term is. elim (Contains-append_cases says (committeds e.term c s.pending) x in_x) [
         | inl old ↦ absurd (other x old gtid opid term is)
@@ -147,7 +149,9 @@ advance_tells ring me d s first says leads each other =
             let p = y.0 in
             let same = committed_is p.gtid gtid gtid p.opid opid e.term term (ap (λ (w : Say). w.what) y.2 ∙ is) in
             let le : p.opid.position ≤ c = settled_inside c p (filter_true (is_settled c) s.pending p y.1) in
-            let stands : IsEntryFor e.log gtid opid = subst (λ (w : Opid). IsEntryFor e.log gtid w) same.1 (subst (λ (w : Gtid). IsEntryFor e.log w p.opid) same.0 (each p (filter_of (is_settled c) s.pending p y.1))) in
+            let stands : IsEntryFor e.log gtid opid =
+            subst (λ (w : Opid). IsEntryFor e.log gtid w) same.1
+            (subst (λ (w : Gtid). IsEntryFor e.log w p.opid) same.0 (each p (filter_of (is_settled c) s.pending p y.1))) in
             subst (λ (w : Durable). MayTell w (record s { commit = c; pending = waiting c s.pending }) gtid opid term) (sym j) (record {
               leads = leads;
               of_term = sym same.2 ∙ sym f.term;

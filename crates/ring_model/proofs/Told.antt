@@ -58,7 +58,8 @@ told_grows ring id h g grows gtid opid term x =
       of_term = x.of_term;
       sealed = seal_moves ring id h g grows x.election term opid.position x.led x.of_term x.sealed;
       inside = omega (arith, x.inside, grows.chosen);
-      stands = stands_in_both (h.book term) (g.book term) gtid opid (grow_book ring id h g grows x.election term opid.position (h.book term) x.led x.of_term (agree_same opid.position (h.book term) within)) x.stands;
+      stands = stands_in_both (h.book term) (g.book term) gtid opid
+          (grow_book ring id h g grows x.election term opid.position (h.book term) x.led x.of_term (agree_same opid.position (h.book term) within)) x.stands;
     }
 
 -- in a world: what waits stands in its leader's log, and what was told stands in the book of the term of its telling
@@ -78,7 +79,8 @@ telling_holds ring w h id s gtid opid term k up may =
       election = l.election;
       led = l.led;
       of_term = l.of_term;
-      sealed = subst (λ (b : List Entry). IsSealed ring h d.term opid.position b) book (seal_less ring h d.term s.commit opid.position d.log may.inside r.sealed);
+      sealed = subst (λ (b : List Entry). IsSealed ring h d.term opid.position b) book
+          (seal_less ring h d.term s.commit opid.position d.log may.inside r.sealed);
       inside = omega (arith, may.inside, r.chosen);
       stands = subst (λ (b : List Entry). IsEntryFor b gtid opid) book may.stands;
     })
@@ -119,7 +121,8 @@ pub told_by_step : (ring : Layout) (w : WorldState) (h : History) (id : ℕ) (st
     (x : TurnedTo ring w (ended w id (w.nodes id).durable st Whole) h id held acts) → Tells (w.nodes id).durable st
     → HoldsTold ring w h → HoldsTold ring (ended w id (w.nodes id).durable st Whole) x.after
 told_by_step ring w h id st held acts x tells t =
-    told_by_turn ring w h id (record { durable = all_done (w.nodes id).durable st.plan.actions; soft = Some st.soft }) st.plan.messages st.plan.says [] held acts x
+    told_by_turn ring w h id
+    (record { durable = all_done (w.nodes id).durable st.plan.actions; soft = Some st.soft }) st.plan.messages st.plan.says [] held acts x
     (λ s so. let is : st.soft ≡ s = cc in subst (λ (o : Soft). KeepsPending (all_done (w.nodes id).durable st.plan.actions).log o) is tells.pending)
     (λ y in_y gtid opid term is. (st.soft, refl, tells.says y in_y gtid opid term is)) t
 
@@ -150,13 +153,15 @@ leader_in ring w h id s k leads = go s.role refl (k.running id s leads.0).role
 pub sealed_in_book : (ring : Layout) (h : History) (u c t : ℕ) (l : List Entry) (e : Election) → IsHistory ring h → Contains h.elections e → e.term ≡ t
     → u ≤ t → IsSealed ring h u c l → Agree c l (h.book t)
 sealed_in_book ring h u c t l e k in_e is le (Nothing_yet z) = record { left = omega arith; right = omega arith; same = rw z refl }
-sealed_in_book ring h u c t l e k in_e is le (Sealed_at s p a b m x) = agree_trans c l (h.book s) (h.book t) x (agree_less c p (h.book s) (h.book t) b (committed_in_book ring h k s p t e m in_e is (omega arith)))
+sealed_in_book ring h u c t l e k in_e is le (Sealed_at s p a b m x) =
+    agree_trans c l (h.book s) (h.book t) x (agree_less c p (h.book s) (h.book t) b (committed_in_book ring h k s p t e m in_e is (omega arith)))
 
 pub told_stands : (ring : Layout) (w : WorldState) (h : History) → IsWorld ring w h → HoldsTold ring w h → ToldStands w
 told_stands ring w h k t gtid opid term y =
     let x = t.told gtid opid term y in
     let c = k.history.chosen in
-    let agrees : Agree opid.position (h.book term) h.chosen = sealed_agree ring h term c.0 opid.position (length h.chosen) (h.book term) h.chosen k.history x.sealed c.1 x.inside in
+    let agrees : Agree opid.position (h.book term) h.chosen =
+    sealed_agree ring h term c.0 opid.position (length h.chosen) (h.book term) h.chosen k.history x.sealed c.1 x.inside in
     let e = x.stands in (
       e.entry,
       subst (λ (l : List Entry). entry_at l opid.position ≡ Some e.entry) k.chosen (sym (entry_agree opid.position (h.book term) h.chosen agrees) ∙ e.at),
@@ -166,6 +171,8 @@ told_stands ring w h k t gtid opid term y =
           let d : Durable = (w.nodes id).durable in
           let l = leader_in ring w h id s k leads in
           let book : d.log ≡ h.book d.term = (k.nodes id).led_log l.election l.led l.by l.of_term ∙ ap h.book l.of_term in
-          let held : Agree opid.position (h.book term) (h.book d.term) = sealed_in_book ring h term opid.position d.term (h.book term) l.election k.history l.led l.of_term le x.sealed in
-          subst (λ (b : List Entry). entry_at b opid.position ≡ Some e.entry) (sym book) (sym (entry_agree opid.position (h.book term) (h.book d.term) held) ∙ e.at),
+          let held : Agree opid.position (h.book term) (h.book d.term) =
+          sealed_in_book ring h term opid.position d.term (h.book term) l.election k.history l.led l.of_term le x.sealed in
+          subst (λ (b : List Entry). entry_at b opid.position ≡ Some e.entry) (sym book)
+          (sym (entry_agree opid.position (h.book term) (h.book d.term) held) ∙ e.at),
     )

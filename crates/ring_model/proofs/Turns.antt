@@ -87,7 +87,8 @@ chosen_history : (ring : Layout) (id : ℕ) (h : History) (l : List Entry) → l
 chosen_history ring id h l le k s =
     let g = chosen_grows id h l le in
     record {
-      elections = λ f in_f. let y = k.elections f in_f in won_stays ring id h (with_chosen h l) g f in_f y (λ i low high. absurd (omega arith)) (grow_log ring id h (with_chosen h l) g f.term f.term (h.book f.term) (omega arith) y.book);
+      elections = λ f in_f. let y = k.elections f in_f in won_stays ring id h (with_chosen h l) g f in_f y (λ i low high. absurd (omega arith))
+          (grow_log ring id h (with_chosen h l) g f.term f.term (h.book f.term) (omega arith) y.book);
       one_leader = k.one_leader;
       terms_once = k.terms_once;
       casts = λ c in_c. cast_stays ring id h (with_chosen h l) g k c in_c (k.casts c in_c);
@@ -110,7 +111,8 @@ pub chosen_only_grows : (ring : Layout) (h : History) (u c : ℕ) (l : List Entr
     → length h.chosen ≤ c → Agree (length h.chosen) h.chosen (take c l)
 chosen_only_grows ring h u c l k le x more =
     let t = k.chosen in
-    sealed_agree ring h t.0 u (length h.chosen) c h.chosen (take c l) k t.1 (subst (λ (n : ℕ). IsSealed ring h u n (take c l)) (length-take-le c l le) (seal_take ring h u c l le x)) more
+    sealed_agree ring h t.0 u (length h.chosen) c h.chosen (take c l) k t.1
+    (subst (λ (n : ℕ). IsSealed ring h u n (take c l)) (length-take-le c l le) (seal_take ring h u c l le x)) more
 
 -- a node's applied or committed beginning is a beginning of the chosen list
 pub in_chosen : (ring : Layout) (h : History) (u c : ℕ) (l : List Entry) → IsHistory ring h → IsSealed ring h u c l → c ≤ length h.chosen → Agree c l h.chosen
@@ -141,7 +143,8 @@ grow_length : (l : List Entry) (n : Node) → reach n ≤ length n.durable.log �
 grow_length l n le = go (nat_lt (length l) (reach n)) refl
   where
     go : (b : Bool) → nat_lt (length l) (reach n) ≡ b → (length l ≤ length (grown l n)) × (reach n ≤ length (grown l n))
-    go true is = rw is (let lt : length l < reach n = grind (arith, nat_tests, is) in let k = length-take-le (reach n) n.durable.log le in (omega arith, omega arith))
+    go true is =
+        rw is (let lt : length l < reach n = grind (arith, nat_tests, is) in let k = length-take-le (reach n) n.durable.log le in (omega arith, omega arith))
     go false is = rw is (omega arith, grind (arith, nat_tests, is))
 
 grow_sealed_list : (ring : Layout) (h : History) (u : ℕ) (n : Node) → reach n ≤ length n.durable.log → IsSealed ring h u (reach n) n.durable.log
@@ -197,7 +200,8 @@ grow_agrees : (ring : Layout) (h : History) (u : ℕ) (n : Node) → IsHistory r
 grow_agrees ring h u n k le x = go (nat_lt (length h.chosen) (reach n)) refl
   where
     go : (b : Bool) → nat_lt (length h.chosen) (reach n) ≡ b → Agree (length h.chosen) h.chosen (grown h.chosen n)
-    go true is = rw is (chosen_only_grows ring h u (reach n) n.durable.log k le x (let lt : length h.chosen < reach n = grind (arith, nat_tests, is) in omega arith))
+    go true is =
+        rw is (chosen_only_grows ring h u (reach n) n.durable.log k le x (let lt : length h.chosen < reach n = grind (arith, nat_tests, is) in omega arith))
     go false is = rw is (agree_same (length h.chosen) h.chosen (omega arith))
 
 pub turn_keeps : (ring : Layout) (w : WorldState) (h : History) (id : ℕ) (n : Node) (ms : List Message) (says : List Say) (cuts : List ℕ)
@@ -244,7 +248,8 @@ turn_keeps ring w h id n ms says cuts held acts k t =
       grows = all;
       elections = t.elections;
       books = t.books;
-      grew = λ more. subst (λ (m : Node). IsLed (with_chosen x l) id m.durable.term) (sym (node_here w.nodes id n)) (grown_led x id n w.chosen is t.reaches more);
+      grew = λ more. subst (λ (m : Node). IsLed (with_chosen x l) id m.durable.term) (sym (node_here w.nodes id n))
+          (grown_led x id n w.chosen is t.reaches more);
       chosen = subst (λ (c : List Entry). Agree (length c) c (grown c n)) is (grow_agrees ring x n.durable.term n t.history t.inside t.reached);
     }
   where
@@ -253,7 +258,8 @@ turn_keeps ring w h id n ms says cuts held acts k t =
     runs s so l long co =
         let is : reach n ≡ s.commit = reach_up n s so in
         record {
-          sealed = grow_sealed ring (suc id) t.after (with_chosen t.after l) co n.durable.term n.durable.term s.commit n.durable.log (omega arith) (subst (λ (c : ℕ). IsSealed ring t.after n.durable.term c n.durable.log) is t.reached);
+          sealed = grow_sealed ring (suc id) t.after (with_chosen t.after l) co n.durable.term n.durable.term s.commit n.durable.log (omega arith)
+              (subst (λ (c : ℕ). IsSealed ring t.after n.durable.term c n.durable.log) is t.reached);
           chosen = omega (arith, long.1);
           applied = omega (arith, t.applied);
           role = role_stays ring (suc id) id t.after (with_chosen t.after l) n.durable s s.role co (λ e. omega arith) (t.role s so);

@@ -1,5 +1,5 @@
 -- A leader that adds an entry of its own, for a write or a rotate: its book goes on with it, and its commit count rises as the holders allow.
-use Rattle.std.proofs.Common.{inl, ◌≡◌, ℕ, ◌≤◌, [], ◌∷◌, ◌++◌, ◌∙◌, List, None, Option, Some, ap, arith, length, length-append, refl, subst, suc, sym}
+use Rattle.std.proofs.Common.{◌≡◌, ℕ, ◌≤◌, [], ◌∷◌, ◌++◌, ◌∙◌, List, None, Option, Some, ap, arith, length, length-append, refl, subst, suc, sym}
 use Rattle.ring_types.specs.declared.values.Change.{Change}
 use Rattle.ring_types.specs.declared.entries.Entry.{Entry}
 use Rattle.ring_types.specs.Rings.{Layout, region_of}
@@ -23,9 +23,9 @@ use Rattle.ring_model.proofs.Leading.{MayAdd, with_book}
 use Rattle.ring_model.proofs.Moves.{Adds}
 use Rattle.ring_model.proofs.Paths.{Ends, Goes_on, Path, path_keeps}
 use Rattle.ring_model.proofs.HeldElections.{done_join, path_join, quiet_join}
-use Rattle.ring_model.proofs.Turns.{IsRow, Sent_all}
+use Rattle.ring_model.proofs.Turns.{IsRow}
 use Rattle.ring_model.proofs.Advance.{Led_on, QuietPath, advance_row, engine_action, leader_at, no_actions}
-use Rattle.ring_model.proofs.Plain.{same_role, stays_holding}
+use Rattle.ring_model.proofs.Plain.{said_row, same_role}
 use Rattle.ring_model.proofs.Elect.{seal_longer}
 
 -- a leader adds an entry, after the engine's work alone
@@ -54,7 +54,8 @@ add_row ring h id d s t first x says k n r role same_role same_count same_peers 
     let f : Durable = done e (action.Append (x ∷ [])) in
     let sealed : IsSealed ring h e.term t.commit e.log = subst (λ (c : ℕ). IsSealed ring h e.term c e.log) (sym same_count)
     (subst (λ (u : ℕ). IsSealed ring h u s.commit e.log) (sym same.term) (subst (λ (w : List Entry). IsSealed ring h d.term s.commit w) (sym same.log) r.sealed)) in
-    advance_row ring h m id d s t (first ++ (action.Append (x ∷ []) ∷ [])) says (path_join ring id h h m d first (action.Append (x ∷ []) ∷ []) q.path (Goes_on (Adds l.election x refl may refl) Ends)) a.history
+    advance_row ring h m id d s t (first ++ (action.Append (x ∷ []) ∷ [])) says
+    (path_join ring id h h m d first (action.Append (x ∷ []) ∷ []) q.path (Goes_on (Adds l.election x refl may refl) Ends)) a.history
     (subst (λ (w : Durable). IsNode ring m id w) (sym j) a.node) (same_role ∙ role)
     (subst (λ (w : Durable). IsLeader m id w t) (sym j) (leader_at m id d f s t same.term (omega (arith, ap length same.log, length-append e.log (x ∷ []))) same_peers (leader_stays ring id h m a.grows id d s l)))
     (subst (λ (w : Durable). IsSealed ring m w.term t.commit w.log) (sym j) (seal_longer ring id h m e.term t.commit e.log (x ∷ []) a.grows sealed))
@@ -63,7 +64,7 @@ add_row ring h id d s t first x says k n r role same_role same_count same_peers 
 
 pub refused_row : (ring : Layout) (h : History) (id client : ℕ) (c : Cause) (d : Durable) (s : Soft) → IsRunning ring h id d s
     → IsRow ring h id d s (refused s client c)
-refused_row ring h id client c d s r = record { acted = h; path = Ends; sent = h; sends = Sent_all; role = r.role; sealed = r.sealed; applied = r.applied; reaches = inl r.chosen; holding = stays_holding ring id h d s s refl }
+refused_row ring h id client c d s r = said_row ring h id d s _ r
 
 -- only a leader is not refused
 pub write_leads : (ring : Layout) (id : ℕ) (d : Durable) (s : Soft) (changes : List Change) → write_refusal ring id d s changes ≡ None → s.role ≡ Leader
@@ -93,7 +94,8 @@ write_row ring h id client changes d s k n r = go (write_refusal ring id d s cha
         → IsRow ring h id d s (elim c [ Some c ↦ refused s client c | None ↦ write_entry_step ring id d s client (write_txn ring id d changes) (write_entry ring id d changes) ])
     go (Some c) is = refused_row ring h id client c d s r
     go None is = add_row ring h id d s (awaits s client (write_entry ring id d changes) (write_txn ring id d changes).gtid)
-        (action.Prepare (record { opid = (write_entry ring id d changes).opid; txn = write_txn ring id d changes }) ∷ []) (write_entry ring id d changes) [] k n r (write_leads ring id d s changes is) refl refl refl
+        (action.Prepare (record { opid = (write_entry ring id d changes).opid; txn = write_txn ring id d changes }) ∷ [])
+        (write_entry ring id d changes) [] k n r (write_leads ring id d s changes is) refl refl refl
         (engine_action ring id h d (action.Prepare (record { opid = (write_entry ring id d changes).opid; txn = write_txn ring id d changes })) (record { term = refl; votes = refl; log = refl; applied = refl })) refl refl refl
 
 pub rotate_row : (ring : Layout) (h : History) (id client : ℕ) (d : Durable) (s : Soft) → IsHistory ring h → IsNode ring h id d → IsRunning ring h id d s
@@ -104,4 +106,7 @@ rotate_row ring h id client d s k n r = go (rotate_refusal ring id d s) refl
     go : (c : Option Cause) → rotate_refusal ring id d s ≡ c
         → IsRow ring h id d s (elim c [ Some c ↦ refused s client c | None ↦ rotate_step ring id d s client (own_entry ring id d payload.Rotate) ])
     go (Some c) is = refused_row ring h id client c d s r
-    go None is = add_row ring h id d s s [] (own_entry ring id d payload.Rotate) (record { client = client; what = what.Rotated (own_entry ring id d payload.Rotate).opid } ∷ []) k n r (rotate_leads ring id d s is) refl refl refl (no_actions ring id h d) refl refl refl
+    go None is =
+        add_row ring h id d s s [] (own_entry ring id d payload.Rotate)
+        (record { client = client; what = what.Rotated (own_entry ring id d payload.Rotate).opid } ∷ []) k n r (rotate_leads ring id d s is) refl refl refl
+        (no_actions ring id h d) refl refl refl

@@ -1,3 +1,4 @@
+pub mod Booleans
 pub mod RingLaws
 pub mod Twice
 pub mod Positions

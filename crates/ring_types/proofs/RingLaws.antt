@@ -12,34 +12,11 @@ use Rattle.ring_types.specs.declared.members.Member.{Member}
 use Rattle.ring_types.specs.declared.members.MemberPart.{MemberPart}
 use Rattle.ring_types.specs.declared.members.RingParts.{RingParts}
 use Rattle.ring_types.proofs.Twice.{any_map}
+use Rattle.ring_types.proofs.Booleans.{as_and, both_false, both_true, eq_true, le_true, lt_true, true_from_not}
 
 -- ---- tests
 elim_false : false ≡ true → ⊥
 elim_false h = cc
-
-lt_true : (a b : ℕ) → a < b → nat_lt a b ≡ true
-lt_true a b h = grind (arith, nat_tests)
-
-le_true : (a b : ℕ) → a ≤ b → nat_le a b ≡ true
-le_true a b h = grind (arith, nat_tests)
-
-eq_true : (a : ℕ) → (a == a) ≡ true
-eq_true a = grind (arith, nat_tests)
-
-both_false : (a b : Bool) → (a || b) ≡ false → (a ≡ false) × (b ≡ false)
-both_false false b h = (refl, h)
-both_false true b h = cc
-
-both_true : (a b : Bool) → (a && b) ≡ true → (a ≡ true) × (b ≡ true)
-both_true true b h = (refl, h)
-both_true false b h = cc
-
-as_and : (a b : Bool) → a ≡ true → b ≡ true → (a && b) ≡ true
-as_and a b p q = rw (p, q) refl
-
-true_from_not : (a : Bool) → not a ≡ false → a ≡ true
-true_from_not true h = refl
-true_from_not false h = cc
 
 any_weaker_at : {X : Type 0} (p q : X → Bool) → ((x : X) → p x ≡ true → q x ≡ true) → (x : X) (xs : List X) (b : Bool) → p x ≡ b → (b || list_any p xs) ≡ true → (list_any p xs ≡ true → list_any q xs ≡ true) → list_any q (x ∷ xs) ≡ true
 any_weaker_at p q w x xs true e h more = rw (w x e) refl
