@@ -1,0 +1,13 @@
+-- intervals
+pub mod Ends
+pub mod Places
+pub mod RangeMembers
+-- servers
+pub mod ServerPlaces
+pub mod ServerMembers
+pub mod Looking
+-- laws
+pub mod Has
+pub mod Greatest
+pub mod OneSet
+pub mod Made
