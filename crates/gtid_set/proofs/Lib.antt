@@ -11,3 +11,7 @@ pub mod Has
 pub mod Greatest
 pub mod OneSet
 pub mod Made
+-- bytes and texts
+pub mod Numbers
+pub mod BytesAgain
+pub mod TextAgain

@@ -1,5 +1,5 @@
 -- What a canonical GTID set is: the one way to write a set as servers with their merged intervals (the MySQL manual, "GTID Sets").
-use Rattle.std.specs.Prelude.{ℕ, ◌+◌, ◌^◌, ◌<◌, ◌≤◌, List, [], ◌∷◌, length}
+use Rattle.std.specs.Prelude.{◌≡◌, ℕ, ◌+◌, ◌^◌, ◌<◌, ◌≤◌, List, [], ◌∷◌, length, Option, Some, None}
 use Rattle.ring_types.specs.declared.limits.TheConstants.{LAST_GTID}
 use Rattle.ring_types.specs.declared.gtid_sets.Interval.{Interval}
 use Rattle.ring_types.specs.declared.gtid_sets.ServerSet.{ServerSet}
@@ -16,3 +16,8 @@ AreCanonicalFrom low (s ∷ set) = (low ≤ s.server) × (s.server < 2 ^ 128) ×
 
 abbrev pub IsCanonical : List ServerSet → Type 0
 IsCanonical set = AreCanonicalFrom 0 set
+
+-- a text, in some spelling, is that of this canonical set, or of none
+abbrev pub IsSpelled : (List ServerSet → List ℕ) → List ℕ → Option (List ServerSet) → Type 0
+IsSpelled spell text None = (set : List ServerSet) → IsCanonical set → spell set ≡ text → ⊥
+IsSpelled spell text (Some set) = IsCanonical set × (spell set ≡ text)

@@ -3,8 +3,24 @@ ghost use Rattle.std.specs.List.{list_any};
 ghost use Rattle.ring_types.specs.Gtids.{interval_has};
 ghost use Rattle.gtid_set.specs.Canonical.{AreMerged};
 ghost use Rattle.gtid_set.specs.Ranges as spec;
+ghost use Rattle.gtid_set.specs.Reading as reading;
 
 use ring_types::{Interval, LAST_GTID, Memory};
+
+/// Whether the intervals stand as in a canonical set.
+pub(crate) fn are_merged(intervals: &[Interval]) -> bool
+    ensures { result ≡ reading.are_merged 0 intervals.now }
+{
+    let mut below = 0;
+    for interval in intervals {
+        let Interval { first, last } = *interval;
+        if last < first || first <= below || LAST_GTID < last {
+            return false;
+        }
+        below = last + 1;
+    }
+    true
+}
 
 /// How many of the intervals end before a number.
 #[tactic(auto, using(crate::proofs::Ends::ends))]

@@ -1,8 +1,9 @@
-ghost use Rattle.std.specs.Prelude.{◌≡◌, [], ◌<◌, ◌≤◌, ◌↔◌, IfOk, IsTrue, OnErr, OnOk, drop, length};
+ghost use Rattle.std.specs.Prelude.{◌≡◌, [], ◌<◌, ◌≤◌, ◌↔◌, IfOk, IsTrue, OnErr, OnOk, drop, length, nat_le};
 ghost use Rattle.ring_types.specs.declared.gtid_sets.ServerSet.{ServerSet};
 ghost use Rattle.gtid_set.specs.Canonical.{AreMerged, IsCanonical};
 ghost use Rattle.gtid_set.specs.Ranges.{with_range, without};
 ghost use Rattle.gtid_set.specs.Servers as spec;
+ghost use Rattle.gtid_set.specs.Reading as reading;
 
 use crate::intervals;
 use ring_types::{Duplicate, Interval, Memory};
@@ -73,6 +74,40 @@ impl Duplicate for ServerNumbers {
             intervals,
         })
     }
+}
+
+/// Whether a server may follow `before`.
+fn follows(before: Option<u128>, server: u128) -> bool
+    ensures { result ≡ nat_le (reading.floor before) server }
+{
+    match before {
+        None => true,
+        Some(earlier) => earlier < server,
+    }
+}
+
+/// Whether a server may follow `before`, and has intervals as in a canonical set.
+fn is_whole(before: Option<u128>, set: &ServerNumbers) -> bool
+    ensures { result ≡ reading.is_whole (reading.floor before) set.now }
+{
+    if set.intervals.is_empty() || !follows(before, set.server) {
+        return false;
+    }
+    intervals::are_merged(set.intervals.as_slice())
+}
+
+/// Whether these are the servers of a canonical set.
+pub(crate) fn are_canonical(servers: &[ServerNumbers]) -> bool
+    ensures { result ≡ reading.are_canonical 0 servers.now }
+{
+    let mut before = None;
+    for set in servers {
+        if !is_whole(before, set) {
+            return false;
+        }
+        before = Some(set.server());
+    }
+    true
 }
 
 /// How many servers at the front come before this one.

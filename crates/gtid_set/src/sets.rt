@@ -1,11 +1,11 @@
-ghost use Rattle.std.specs.Prelude.{◌≡◌, [], ◌≤◌, IfOk, OnErr, OnOk, Some, None};
+ghost use Rattle.std.specs.Prelude.{◌≡◌, [], ◌≤◌, IfOk, IfSome, MatchOption, OnErr, OnOk, Some, None};
 ghost use Rattle.ring_types.specs.Gtids.{has};
 ghost use Rattle.gtid_set.specs.Canonical.{IsCanonical};
 ghost use Rattle.gtid_set.specs.Members.{HasAlso, HasAllBut, HasBoth};
 ghost use Rattle.gtid_set.specs.Next.{next_in};
 
 use crate::intervals::{greatest, have};
-use crate::servers::{ServerNumbers, copies, intervals_of, put_range, put_sets, take_number};
+use crate::servers::{ServerNumbers, are_canonical, copies, intervals_of, put_range, put_sets, take_number};
 use ring_types::{Duplicate, Gtid, Interval, LAST_GTID, Memory};
 use std::alloc::Global;
 use std::marker::Model;
@@ -45,6 +45,26 @@ impl GtidSet {
             alloc,
             servers: Vec::new(alloc),
         }
+    }
+
+    /// The set of these servers; None if they are not those of a canonical set.
+    pub(crate) fn of(alloc: Global, servers: Vec<ServerNumbers>) -> Option<GtidSet>
+        ensures value { MatchOption result (IsCanonical servers.items → ⊥) (λ it. it ≡ servers.items) }
+        ensures canonical { IfSome result (λ it. IsCanonical it) }
+    {
+        if are_canonical(servers.as_slice()) {
+            Some(GtidSet { alloc, servers })
+        } else {
+            None
+        }
+    }
+
+    /// The servers, lent.
+    pub(crate) fn servers(&self) -> &[ServerNumbers]
+        ensures value { result.now ≡ self.now }
+        ensures canonical { IsCanonical self.now }
+    {
+        self.servers.as_slice()
     }
 
     /// Whether the set has a GTID. Takes no memory.
