@@ -1,0 +1,17 @@
+-- intervals
+pub mod Ends
+pub mod Places
+pub mod RangeMembers
+-- servers
+pub mod ServerPlaces
+pub mod ServerMembers
+pub mod Looking
+-- laws
+pub mod Has
+pub mod Greatest
+pub mod OneSet
+pub mod Made
+-- bytes and texts
+pub mod Numbers
+pub mod BytesAgain
+pub mod TextAgain

@@ -1,0 +1,12 @@
+-- what is found, with what is still to be read, is the whole
+use Rattle.std.proofs.Common.{◌≡◌, ◌++◌, map}
+use Rattle.std.specs.Option.{option_copied}
+use Rattle.gtid_set.specs.Pieces.{pieces, pieces_left, server_in}
+use Rattle.gtid_set.proofs.TextAgain.{left_of}
+use Rattle.gtid_set.proofs.texts.set_in.Given as goal
+
+abbrev pub invariant-loop-rest : goal.invariant-loop-rest
+invariant-loop-rest l = l.found.items ++ map server_in (pieces_left 44 (option_copied l.rest)) ≡ map server_in (pieces 44 l.bytes)
+
+abbrev pub decreases-loop-rest : goal.decreases-loop-rest
+decreases-loop-rest l = left_of (option_copied l.rest)
