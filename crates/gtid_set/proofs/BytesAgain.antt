@@ -1,5 +1,5 @@
 -- What a canonical set's bytes are read as is the set: each part is read where it was written, whatever follows.
-use Rattle.std.proofs.Common.{◌≡◌, ℕ, zero, suc, ◌+◌, ◌-◌, ◌^◌, ◌<◌, ◌≤◌, Bool, true, false, ◌&&◌, List, [], ◌∷◌, ◌++◌, length, nat_lt, nat_le, Option, Some, None, refl, sym, ap, ap₂, subst, ◌∙◌, append_assoc, arith}
+use Rattle.std.proofs.Common.{◌≡◌, ℕ, zero, suc, ◌+◌, ◌-◌, ◌^◌, ◌<◌, ◌≤◌, Bool, true, false, ◌&&◌, List, [], ◌∷◌, ◌++◌, length, nat_lt, nat_le, Option, Some, None, refl, sym, ap, subst, ◌∙◌, append_assoc, arith}
 use Rattle.std.specs.List.{flat_map}
 use Rattle.std.proofs.lemmas.List.{append-nil, length-append}
 use Rattle.std.proofs.lemmas.Bool.Decides.{nat_tests}
@@ -7,7 +7,7 @@ use Rattle.ring_types.specs.declared.gtid_sets.Interval.{Interval}
 use Rattle.ring_types.specs.declared.gtid_sets.ServerSet.{ServerSet}
 use Rattle.gtid_set.specs.Canonical.{AreMerged, AreCanonicalFrom, IsCanonical, IsSpelled}
 use Rattle.gtid_set.specs.Bytes.{number_bytes, uuid_bytes, interval_bytes, server_bytes, set_bytes}
-use Rattle.gtid_set.specs.Reading.{and_then, number_at, uuid_at, interval_at, intervals_at, server_at, servers_at, set_at, are_merged, is_whole, are_canonical}
+use Rattle.gtid_set.specs.Reading.{and_then, interval_at, intervals_at, server_at, servers_at, set_at, are_merged, is_whole, are_canonical}
 use Rattle.gtid_set.proofs.Numbers.{number_again, uuid_again}
 
 interval_again : (i : Interval) (rest : List ℕ) → i.first < 2 ^ 63 → i.last < 2 ^ 63 → interval_at (interval_bytes i ++ rest) ≡ Some (i, rest)

@@ -1,12 +1,12 @@
 -- The intervals before the count stay as they are, whatever is put in or taken out behind them; what happens behind is told by the next interval alone.
-use Rattle.std.proofs.Common.{◌≡◌, ℕ, zero, suc, ◌+◌, ◌-◌, ◌<◌, ◌≤◌, Bool, true, false, cond, List, [], ◌∷◌, ◌++◌, length, get_or, set, take, drop, max, min, nat_lt, nat_le, refl, sym, ap, ◌∙◌, add-one, append_assoc, arith}
+use Rattle.std.proofs.Common.{◌≡◌, ℕ, suc, ◌+◌, ◌-◌, ◌<◌, ◌≤◌, Bool, true, false, cond, List, [], ◌∷◌, ◌++◌, length, get_or, set, take, drop, max, min, nat_lt, nat_le, refl, sym, ap, ◌∙◌, add-one, append_assoc, arith}
 use Rattle.std.specs.List.{insert, remove, list_any}
 use Rattle.std.proofs.lemmas.Bool.Decides.{nat_tests}
-use Rattle.std.proofs.lemmas.List.{drop_more, drop_all, set_split, set_at, take_at, take_more, take_all, append-nil, drop_at, length-take-le}
+use Rattle.std.proofs.lemmas.List.{drop_more, drop_all, set_split, set_at, take_more, take_all, append-nil, drop_at, length-take-le}
 use Rattle.ring_types.specs.Gtids.{interval_has}
 use Rattle.ring_types.specs.declared.gtid_sets.Interval.{Interval}
 use Rattle.gtid_set.specs.Canonical.{AreMerged}
-use Rattle.gtid_set.specs.Ranges.{ends_before, begins_by, swallowed, put_first, with_range, part_below, part_above, cut_out, without}
+use Rattle.gtid_set.specs.Ranges.{ends_before, begins_by, swallowed, put_first, with_range, cut_out, without}
 
 -- what is left from a place on, by the interval there
 pub from_place : (k : ℕ) (x : Interval) (is : List Interval) → k < length is → x ≡ get_or is k x → drop k is ≡ x ∷ drop (k + 1) is

@@ -1,15 +1,13 @@
 -- Servers ascend, so that those behind a place have none of an earlier server's numbers: a change at one server is a change of its numbers alone.
-use Rattle.std.proofs.Common.{◌≡◌, ◌≢◌, ℕ, suc, ◌+◌, ◌-◌, ◌^◌, ◌<◌, ◌≤◌, Bool, true, false, cond, not, ◌&&◌, ◌||◌, ◌==◌, List, [], ◌∷◌, ◌++◌, length, nat_lt, nat_le, refl, sym, ap, ◌∙◌, arith}
-use Rattle.std.specs.List.{list_any}
+use Rattle.std.proofs.Common.{◌≡◌, ℕ, ◌+◌, ◌^◌, ◌<◌, ◌≤◌, Bool, true, false, cond, not, ◌&&◌, ◌||◌, ◌==◌, List, [], ◌∷◌, ◌++◌, nat_lt, refl, ap, ◌∙◌, arith}
 use Rattle.std.proofs.lemmas.Bool.Decides.{nat_tests}
 use Rattle.ring_types.specs.Gtids.{has}
-use Rattle.ring_types.specs.declared.limits.TheConstants.{LAST_GTID}
 use Rattle.ring_types.specs.declared.gtid_sets.Interval.{Interval}
 use Rattle.ring_types.specs.declared.gtid_sets.ServerSet.{ServerSet}
 use Rattle.gtid_set.specs.Canonical.{AreMerged, AreCanonicalFrom, IsCanonical}
 use Rattle.gtid_set.specs.Ranges.{with_range, without}
 use Rattle.gtid_set.specs.Servers.{lone, range_here, range_in, ranges_in, sets_in, left, number_here, number_out}
-use Rattle.gtid_set.proofs.RangeMembers.{held, between, with_range-held, with_range-merged, with_range-some, without-held, without-merged, merged_lower}
+use Rattle.gtid_set.proofs.RangeMembers.{held, between, with_range-held, with_range-merged, with_range-some, without-held, without-merged}
 
 pub none_server : (low x n : ℕ) (set : List ServerSet) → AreCanonicalFrom low set → x < low → has set x n ≡ false
 none_server low x n [] h lt = refl

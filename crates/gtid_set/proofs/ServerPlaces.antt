@@ -2,12 +2,12 @@
 use Rattle.std.proofs.Common.{◌≡◌, ℕ, zero, suc, ◌+◌, ◌<◌, ◌≤◌, Bool, true, false, cond, ◌==◌, List, [], ◌∷◌, ◌++◌, length, get_or, set, take, drop, nat_lt, refl, sym, ap, ap₂, subst, ◌∙◌, add-one, arith}
 use Rattle.std.specs.List.{insert, remove}
 use Rattle.std.proofs.lemmas.Bool.Decides.{nat_tests}
-use Rattle.std.proofs.lemmas.List.{drop_more, at_drop_more, get_or-set_same, drop_all, set_split, take-append-drop, take-set, drop-set-lt}
+use Rattle.std.proofs.lemmas.List.{drop_more, at_drop_more, get_or-set_same, set_split, take-append-drop, take-set, drop-set-lt}
 use Rattle.ring_types.specs.declared.gtid_sets.Interval.{Interval}
 use Rattle.ring_types.specs.declared.gtid_sets.ServerSet.{ServerSet}
 use Rattle.gtid_set.specs.Canonical.{AreMerged, AreCanonicalFrom, IsCanonical}
 use Rattle.gtid_set.specs.Ranges.{with_range, without}
-use Rattle.gtid_set.specs.Servers.{servers_below, begins_with, lone, range_here, range_in, ranges_in, left, number_here, number_out, first_intervals}
+use Rattle.gtid_set.specs.Servers.{servers_below, begins_with, lone, range_here, range_in, ranges_in, left, number_here, number_out}
 
 pub below_within : (server : ℕ) (xs : List ServerSet) → servers_below server xs ≤ length xs
 below_within server [] = omega arith
