@@ -52,7 +52,7 @@ servers_again low found (s ∷ set) rest h =
     ∙ servers_again (s.server + 1) (found ++ s ∷ []) set rest h.4
     ∙ ap (λ (l : List ServerSet). Some (l, rest)) (append_assoc found (s ∷ []) set)
 
-pub set_again : (set : List ServerSet) → IsCanonical set → length set < 2 ^ 64 → set_at (set_bytes set) ≡ Some (set, [])
+set_again : (set : List ServerSet) → IsCanonical set → length set < 2 ^ 64 → set_at (set_bytes set) ≡ Some (set, [])
 set_again set h count =
     rw (number_again (length set) (flat_map server_bytes set) count)
     (ap (λ (bytes : List ℕ). servers_at [] (length set) bytes) (sym (append-nil (flat_map server_bytes set))) ∙ servers_again 0 [] set [] h)
@@ -62,13 +62,13 @@ both_true : (a b : Bool) → (a && b) ≡ true → (a ≡ true) × (b ≡ true)
 both_true true b h = (refl, h)
 both_true false b h = absurd cc
 
-pub merged_told : (below : ℕ) (is : List Interval) → are_merged below is ≡ true → AreMerged below is
+merged_told : (below : ℕ) (is : List Interval) → are_merged below is ≡ true → AreMerged below is
 merged_told below [] h = tt
 merged_told below (i ∷ is) h =
     let (own, more) = both_true (nat_lt below i.first && (nat_le i.first i.last && nat_le i.last _)) (are_merged (i.last + 1) is) h in
     (grind (arith, nat_tests, own), grind (arith, nat_tests, own), grind (arith, nat_tests, own), merged_told (i.last + 1) is more)
 
-pub merged_true : (below : ℕ) (is : List Interval) → AreMerged below is → are_merged below is ≡ true
+merged_true : (below : ℕ) (is : List Interval) → AreMerged below is → are_merged below is ≡ true
 merged_true below [] h = refl
 merged_true below (i ∷ is) h = let a = h.0 in let b = h.1 in let c = h.2 in let more = merged_true (i.last + 1) is h.3 in grind (arith, nat_tests, more)
 

@@ -98,7 +98,7 @@ with_range-some a b [] = omega arith
 with_range-some a b (i ∷ is) = range_some_by i (with_range a b is) (put_first a b (i ∷ is)) (nat_lt i.last (a - 1)) (put_first-some a b (i ∷ is))
 
 -- ---- a number taken out
-pub merged_lower : (low under : ℕ) (is : List Interval) → under ≤ low → AreMerged low is → AreMerged under is
+merged_lower : (low under : ℕ) (is : List Interval) → under ≤ low → AreMerged low is → AreMerged under is
 merged_lower low under [] le h = tt
 merged_lower low under (i ∷ is) le h = let l : low < i.first = h.0 in (omega arith, h.1, h.2, h.3)
 

@@ -16,7 +16,7 @@ none_server low x n (s ∷ set) h lt =
     let more = none_server (s.server + 1) x n set h.4 (omega arith) in
     grind (arith, nat_tests, more)
 
-pub canonical_lower : (low under : ℕ) (set : List ServerSet) → under ≤ low → AreCanonicalFrom low set → AreCanonicalFrom under set
+canonical_lower : (low under : ℕ) (set : List ServerSet) → under ≤ low → AreCanonicalFrom low set → AreCanonicalFrom under set
 canonical_lower low under [] le h = tt
 canonical_lower low under (s ∷ set) le h = let l : low ≤ s.server = h.0 in (omega arith, h.1, h.2, h.3, h.4)
 
@@ -65,7 +65,7 @@ range_in-canonical low server i (s ∷ set) h le fits one =
 abbrev one_of : (low : ℕ) (i : Interval) (is : List Interval) → AreMerged low (i ∷ is) → AreMerged 0 (i ∷ [])
 one_of low i is h = let l : low < i.first = h.0 in (let z : 0 < i.first = omega arith in z, h.1, h.2, tt)
 
-pub ranges_in-canonical : (low server : ℕ) (is : List Interval) (set : List ServerSet) → IsCanonical set → server < 2 ^ 128 → AreMerged low is → IsCanonical (ranges_in server is set)
+ranges_in-canonical : (low server : ℕ) (is : List Interval) (set : List ServerSet) → IsCanonical set → server < 2 ^ 128 → AreMerged low is → IsCanonical (ranges_in server is set)
 ranges_in-canonical low server [] set h fits m = h
 ranges_in-canonical low server (i ∷ is) set h fits m =
     ranges_in-canonical (i.last + 1) server is (range_in server i set) (range_in-canonical 0 server i set h (omega arith) fits (one_of low i is m)) fits m.3
@@ -75,7 +75,7 @@ or_shared true p b c = refl
 or_shared false true b c = refl
 or_shared false false b c = refl
 
-pub ranges_in-has : (low server x m : ℕ) (is : List Interval) (set : List ServerSet) → IsCanonical set → server < 2 ^ 128 → AreMerged low is
+ranges_in-has : (low server x m : ℕ) (is : List Interval) (set : List ServerSet) → IsCanonical set → server < 2 ^ 128 → AreMerged low is
     → has (ranges_in server is set) x m ≡ (has set x m || (x == server && held m is))
 ranges_in-has low server x m [] set h fits g = grind (arith, nat_tests)
 ranges_in-has low server x m (i ∷ is) set h fits g =

@@ -17,15 +17,15 @@ below_within server (s ∷ xs) = below_by (servers_below server xs) (length xs) 
     below_by e n true le = omega arith
     below_by e n false le = omega arith
 
-pub canonical_at : (low k : ℕ) (d : ServerSet) (xs : List ServerSet) → AreCanonicalFrom low xs → k < length xs → AreMerged 0 (get_or xs k d).intervals
+canonical_at : (low k : ℕ) (d : ServerSet) (xs : List ServerSet) → AreCanonicalFrom low xs → k < length xs → AreMerged 0 (get_or xs k d).intervals
 canonical_at low k d [] h lt = absurd (omega arith)
 canonical_at low zero d (s ∷ xs) h lt = h.3
 canonical_at low (suc k) d (s ∷ xs) h lt = canonical_at (s.server + 1) k d xs h.4 (omega arith)
 
-pub server_place : (k : ℕ) (x : ServerSet) (xs : List ServerSet) → k < length xs → x ≡ get_or xs k x → drop k xs ≡ x ∷ drop (k + 1) xs
+server_place : (k : ℕ) (x : ServerSet) (xs : List ServerSet) → k < length xs → x ≡ get_or xs k x → drop k xs ≡ x ∷ drop (k + 1) xs
 server_place k x xs lt e = drop_more xs k x lt ∙ ap (λ (y : ServerSet). y ∷ drop (k + 1) xs) (sym e)
 
-pub begins-server : (server k : ℕ) (x : ServerSet) (xs : List ServerSet) → k < length xs → x ≡ get_or xs k x → begins_with server (drop k xs) ≡ (x.server == server)
+begins-server : (server k : ℕ) (x : ServerSet) (xs : List ServerSet) → k < length xs → x ≡ get_or xs k x → begins_with server (drop k xs) ≡ (x.server == server)
 begins-server server k x xs lt e = ap (begins_with server) (server_place k x xs lt e)
 
 -- ---- a range put in

@@ -169,7 +169,7 @@ servers_again low [] h = refl
 servers_again low (s ∷ set) h = ap₂ (λ (x : ServerSet) (xs : List ServerSet). x ∷ xs) (server_again low s set h) (servers_again (s.server + 1) set h.4)
 
 -- a text that is not empty is read piece by piece
-pub read_pieces : (bytes : List ℕ) → 0 < length bytes → set_in bytes ≡ map server_in (pieces 44 bytes)
+read_pieces : (bytes : List ℕ) → 0 < length bytes → set_in bytes ≡ map server_in (pieces 44 bytes)
 read_pieces [] lt = absurd (omega arith)
 read_pieces (b ∷ bs) lt = refl
 
@@ -177,7 +177,7 @@ uuid_long : (server : ℕ) (rest : List ℕ) → 0 < length (uuid_text server ++
 unfolding uuid_text by_index
 uuid_long server rest = omega arith
 
-pub text_again : (set : List ServerSet) → IsCanonical set → set_in (set_text set) ≡ set
+text_again : (set : List ServerSet) → IsCanonical set → set_in (set_text set) ≡ set
 text_again [] h = refl
 text_again (s ∷ set) h =
     let free = servers_free 0 (s ∷ set) h in
