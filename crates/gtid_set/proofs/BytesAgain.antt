@@ -1,5 +1,5 @@
 -- What a canonical set's bytes are read as is the set: each part is read where it was written, whatever follows.
-use Rattle.std.proofs.Common.{◌≡◌, ℕ, zero, suc, ◌+◌, ◌-◌, ◌^◌, ◌<◌, ◌≤◌, Bool, true, false, ◌&&◌, List, [], ◌∷◌, ◌++◌, length, nat_lt, nat_le, Option, Some, None, refl, sym, ap, ap₂, subst, ◌∙◌, append_assoc, arith}
+use Rattle.std.proofs.Common.{◌≡◌, ℕ, zero, suc, ◌+◌, ◌-◌, ◌^◌, ◌<◌, ◌≤◌, Bool, true, false, ◌&&◌, List, [], ◌∷◌, ◌++◌, length, nat_lt, nat_le, Option, Some, None, refl, sym, ap, subst, ◌∙◌, append_assoc, arith}
 use Rattle.std.specs.List.{flat_map}
 use Rattle.std.proofs.lemmas.List.{append-nil, length-append}
 use Rattle.std.proofs.lemmas.Bool.Decides.{nat_tests}
@@ -7,7 +7,7 @@ use Rattle.ring_types.specs.declared.gtid_sets.Interval.{Interval}
 use Rattle.ring_types.specs.declared.gtid_sets.ServerSet.{ServerSet}
 use Rattle.gtid_set.specs.Canonical.{AreMerged, AreCanonicalFrom, IsCanonical, IsSpelled}
 use Rattle.gtid_set.specs.Bytes.{number_bytes, uuid_bytes, interval_bytes, server_bytes, set_bytes}
-use Rattle.gtid_set.specs.Reading.{and_then, number_at, uuid_at, interval_at, intervals_at, server_at, servers_at, set_at, are_merged, is_whole, are_canonical}
+use Rattle.gtid_set.specs.Reading.{and_then, interval_at, intervals_at, server_at, servers_at, set_at, are_merged, is_whole, are_canonical}
 use Rattle.gtid_set.proofs.Numbers.{number_again, uuid_again}
 
 interval_again : (i : Interval) (rest : List ℕ) → i.first < 2 ^ 63 → i.last < 2 ^ 63 → interval_at (interval_bytes i ++ rest) ≡ Some (i, rest)
@@ -52,7 +52,7 @@ servers_again low found (s ∷ set) rest h =
     ∙ servers_again (s.server + 1) (found ++ s ∷ []) set rest h.4
     ∙ ap (λ (l : List ServerSet). Some (l, rest)) (append_assoc found (s ∷ []) set)
 
-pub set_again : (set : List ServerSet) → IsCanonical set → length set < 2 ^ 64 → set_at (set_bytes set) ≡ Some (set, [])
+set_again : (set : List ServerSet) → IsCanonical set → length set < 2 ^ 64 → set_at (set_bytes set) ≡ Some (set, [])
 set_again set h count =
     rw (number_again (length set) (flat_map server_bytes set) count)
     (ap (λ (bytes : List ℕ). servers_at [] (length set) bytes) (sym (append-nil (flat_map server_bytes set))) ∙ servers_again 0 [] set [] h)
@@ -62,13 +62,13 @@ both_true : (a b : Bool) → (a && b) ≡ true → (a ≡ true) × (b ≡ true)
 both_true true b h = (refl, h)
 both_true false b h = absurd cc
 
-pub merged_told : (below : ℕ) (is : List Interval) → are_merged below is ≡ true → AreMerged below is
+merged_told : (below : ℕ) (is : List Interval) → are_merged below is ≡ true → AreMerged below is
 merged_told below [] h = tt
 merged_told below (i ∷ is) h =
     let (own, more) = both_true (nat_lt below i.first && (nat_le i.first i.last && nat_le i.last _)) (are_merged (i.last + 1) is) h in
     (grind (arith, nat_tests, own), grind (arith, nat_tests, own), grind (arith, nat_tests, own), merged_told (i.last + 1) is more)
 
-pub merged_true : (below : ℕ) (is : List Interval) → AreMerged below is → are_merged below is ≡ true
+merged_true : (below : ℕ) (is : List Interval) → AreMerged below is → are_merged below is ≡ true
 merged_true below [] h = refl
 merged_true below (i ∷ is) h = let a = h.0 in let b = h.1 in let c = h.2 in let more = merged_true (i.last + 1) is h.3 in grind (arith, nat_tests, more)
 

@@ -1,5 +1,5 @@
 -- The intervals that end before a number are a prefix, since the ends ascend: so the test at one place tells on which side of the count it is.
-use Rattle.std.proofs.Common.{◌≡◌, ℕ, zero, suc, ◌+◌, ◌-◌, ◌<◌, ◌≤◌, Bool, true, false, cond, List, [], ◌∷◌, ◌++◌, length, get_or, take, drop, nat_lt, nat_le, refl, sym, ap, ◌∙◌, arith}
+use Rattle.std.proofs.Common.{◌≡◌, ℕ, zero, suc, ◌+◌, ◌<◌, ◌≤◌, Bool, true, false, cond, List, [], ◌∷◌, length, get_or, nat_lt, refl, ◌∙◌, arith}
 use Rattle.std.proofs.lemmas.Bool.Decides.{nat_tests}
 use Rattle.ring_types.specs.declared.gtid_sets.Interval.{Interval}
 use Rattle.gtid_set.specs.Canonical.{AreMerged}
@@ -10,7 +10,7 @@ none_by : (low n : ℕ) (i : Interval) (e : ℕ) (b : Bool) → AreMerged low (i
 none_by low n i e true h le k = let a : low < i.first = h.0 in let b : i.first ≤ i.last = h.1 in let c : i.last < n = grind (arith, nat_tests, k) in absurd (omega arith)
 none_by low n i e false h le k = refl
 
-pub none_ends : (low n : ℕ) (is : List Interval) → AreMerged low is → n ≤ low → ends_before n is ≡ 0
+none_ends : (low n : ℕ) (is : List Interval) → AreMerged low is → n ≤ low → ends_before n is ≡ 0
 none_ends low n [] h le = refl
 none_ends low n (i ∷ is) h le = none_by low n i (ends_before n is) (nat_lt i.last n) (h.0, h.1, h.2, tt) le refl
 
@@ -34,7 +34,7 @@ next_by k n e i x false h more none =
     let z : e ≡ 0 = none le in
     more ∙ (grind (arith, nat_tests, z))
 
-pub end_at : (low n k : ℕ) (d : Interval) (is : List Interval) → AreMerged low is → k < length is → nat_lt (get_or is k d).last n ≡ nat_lt k (ends_before n is)
+end_at : (low n k : ℕ) (d : Interval) (is : List Interval) → AreMerged low is → k < length is → nat_lt (get_or is k d).last n ≡ nat_lt k (ends_before n is)
 end_at low n k d [] h lt = absurd (omega arith)
 end_at low n zero d (i ∷ is) h lt = first_by n (ends_before n is) i (nat_lt i.last n) refl
 end_at low n (suc k) d (i ∷ is) h lt =

@@ -1,14 +1,13 @@
 -- the greatest number of a canonical set is that of the list that it was made of
-use Rattle.std.proofs.Common.{◌≡◌, ℕ, zero, suc, ◌+◌, ◌-◌, ◌^◌, ◌≤◌, ◌==◌, ◌||◌, Bool, true, false, nat_lt, nat_le, max, if◌then◌else◌, List, [], ◌∷◌, ◌++◌, map, filter, fold, Option, Some, None, refl, sym, ap, ◌∙◌, arith}
+use Rattle.std.proofs.Common.{◌≡◌, ℕ, ◌+◌, ◌≤◌, ◌==◌, ◌||◌, Bool, true, false, nat_lt, max, if◌then◌else◌, List, [], ◌∷◌, map, fold, Some, None, refl, sym, ap, ◌∙◌, arith}
 use Rattle.std.specs.List.{list_any}
 use Rattle.std.proofs.lemmas.Bool.Decides.{nat_tests}
 use Rattle.ring_types.specs.declared.limits.TheConstants.{LAST_GTID}
 use Rattle.ring_types.specs.declared.values.Gtid.{Gtid}
 use Rattle.ring_types.specs.declared.entries.Entry.{Entry}
 use Rattle.ring_types.specs.declared.gtid_sets.Interval.{Interval}
-use Rattle.ring_types.specs.declared.gtid_sets.ServerSet.{ServerSet}
-use Rattle.ring_types.specs.Gtids.{gtids, gtids_in, with_number, ascending, joined, intervals_of, numbers_of, server_set, set_of, greatest_number, next_number}
-use Rattle.gtid_set.specs.Next.{tops, top_in, greatest_in, next_in}
+use Rattle.ring_types.specs.Gtids.{gtids, gtids_in, with_number, ascending, joined, intervals_of, numbers_of, server_set, set_of, next_number}
+use Rattle.gtid_set.specs.Next.{tops, greatest_in, next_in}
 
 -- ---- the greatest of a list, from the front
 abbrev greatest : ℕ → List ℕ → ℕ

@@ -32,7 +32,7 @@ fold-among n acc [] = or-comm false (among n acc)
 fold-among n acc (x ∷ xs) =
     fold-among n (with_number x acc) xs ∙ ap (λ (b : Bool). b || among n xs) (with_number-among x n acc ∙ or-comm (x == n) (among n acc)) ∙ or-assoc (among n acc) (x == n) (among n xs)
 
-pub ascending-among : (n : ℕ) (xs : List ℕ) → among n (ascending xs) ≡ among n xs
+ascending-among : (n : ℕ) (xs : List ℕ) → among n (ascending xs) ≡ among n xs
 ascending-among n xs = fold-among n [] xs
 
 -- ---- merging
@@ -52,7 +52,7 @@ joined-has : (m n : ℕ) (is : List Interval) → AreThere is → list_any (inte
 joined-has m n [] h = grind (arith, nat_tests)
 joined-has m n (i ∷ is) h = let first : i.first ≤ i.last = h.0 in grind (arith, nat_tests)
 
-pub intervals-has : (n : ℕ) (xs : List ℕ) → list_any (interval_has n) (intervals_of xs) ≡ among n xs
+intervals-has : (n : ℕ) (xs : List ℕ) → list_any (interval_has n) (intervals_of xs) ≡ among n xs
 intervals-has n [] = refl
 intervals-has n (x ∷ xs) = joined-has x n (intervals_of xs) (intervals-there xs) ∙ ap (λ (b : Bool). (x == n) || b) (intervals-has n xs)
 

@@ -1,13 +1,12 @@
 -- What the set tells of a server stands in the intervals at its place: the servers before and behind it are others.
-use Rattle.std.proofs.Common.{◌≡◌, ℕ, suc, ◌+◌, ◌-◌, ◌<◌, ◌≤◌, Bool, true, false, cond, ◌&&◌, ◌||◌, ◌==◌, List, [], ◌∷◌, length, get_or, drop, max, nat_lt, nat_le, Some, None, refl, sym, ap, ◌∙◌, arith}
-use Rattle.std.specs.List.{list_any}
+use Rattle.std.proofs.Common.{◌≡◌, ℕ, suc, ◌+◌, ◌-◌, ◌<◌, ◌≤◌, Bool, true, false, cond, ◌||◌, ◌==◌, List, [], ◌∷◌, length, get_or, drop, max, nat_lt, Some, None, refl, sym, ap, ◌∙◌, arith}
 use Rattle.std.proofs.lemmas.Bool.Decides.{nat_tests}
 use Rattle.ring_types.specs.Gtids.{has}
 use Rattle.ring_types.specs.declared.limits.TheConstants.{LAST_GTID}
 use Rattle.ring_types.specs.declared.gtid_sets.Interval.{Interval}
 use Rattle.ring_types.specs.declared.gtid_sets.ServerSet.{ServerSet}
 use Rattle.gtid_set.specs.Canonical.{AreMerged, AreCanonicalFrom}
-use Rattle.gtid_set.specs.Next.{tops, top_in, greatest_in, next_in}
+use Rattle.gtid_set.specs.Next.{tops, greatest_in, next_in}
 use Rattle.gtid_set.specs.Ranges.{end_behind}
 use Rattle.gtid_set.specs.Servers.{servers_below, first_intervals, intervals_of}
 use Rattle.gtid_set.proofs.RangeMembers.{held, between}

@@ -1,16 +1,14 @@
 -- The set that some GTIDs make is canonical: numbers and servers are put in order before they are joined, and a server is named only by one of its numbers.
-use Rattle.std.proofs.Common.{◌≡◌, ◌≢◌, ℕ, suc, ◌+◌, ◌^◌, ◌<◌, ◌≤◌, Bool, true, false, cond, ◌&&◌, ◌||◌, ◌==◌, List, [], ◌∷◌, ◌++◌, length, map, filter, fold, nat_lt, Option, Some, refl, sym, ap, subst, ◌∙◌, arith}
-use Rattle.std.specs.List.{cons_option, list_any, AllByRecursion}
+use Rattle.std.proofs.Common.{◌≡◌, ℕ, ◌+◌, ◌^◌, ◌<◌, ◌≤◌, Bool, true, false, cond, ◌&&◌, ◌||◌, ◌==◌, List, [], ◌∷◌, ◌++◌, length, map, filter, fold, nat_lt, Option, Some, refl, sym, ap, ◌∙◌, arith}
+use Rattle.std.specs.List.{cons_option, AllByRecursion}
 use Rattle.std.proofs.lemmas.List.Elements.{filter_map-append}
 use Rattle.std.proofs.lemmas.Bool.Decides.{nat_tests}
-use Rattle.ring_types.specs.Gtids.{gtid_of, gtids, gtids_in, has, with_number, ascending, joined, intervals_of, numbers_of, server_set, set_of}
+use Rattle.ring_types.specs.Gtids.{gtid_of, gtids, gtids_in, with_number, ascending, joined, intervals_of, numbers_of, server_set, set_of}
 use Rattle.ring_types.specs.declared.limits.TheConstants.{LAST_GTID}
 use Rattle.ring_types.specs.declared.values.Gtid.{Gtid}
 use Rattle.ring_types.specs.declared.entries.Entry.{Entry}
 use Rattle.ring_types.specs.declared.gtid_sets.Interval.{Interval}
-use Rattle.ring_types.specs.declared.gtid_sets.ServerSet.{ServerSet}
-use Rattle.gtid_set.specs.Canonical.{AreMerged, AreCanonicalFrom, IsCanonical}
-use Rattle.gtid_set.specs.Members.{HasAlso}
+use Rattle.gtid_set.specs.Canonical.{AreMerged, AreCanonicalFrom}
 use Rattle.gtid_set.specs.Laws.{is_among, AreInRange, IsCanonicalOfAny, GrowsWithLog}
 use Rattle.gtid_set.proofs.Has.{among, has_exactly_them}
 use Rattle.gtid_set.proofs.OneSet.{one_set_has_them}
@@ -135,10 +133,13 @@ fold-among_all all acc (x ∷ xs) h g = fold-among_all all (with_number x acc) x
 
 sets-canonical : (gs : List Gtid) (low : ℕ) (ts : List ℕ) → AreInRange gs → RiseFrom low (2 ^ 128) ts → AllAmong (map (λ (g : Gtid). g.server) gs) ts → AreCanonicalFrom low (map (server_set gs) ts)
 sets-canonical gs low [] r h a = tt
-sets-canonical gs low (t ∷ ts) r h a =
-    (h.0, h.1, intervals-some (ascending (numbers_of t gs)) (ascending-some (numbers_of t gs) (numbers-some t gs a.0)),
-    intervals-merged 0 1 (ascending (numbers_of t gs)) (omega arith) (ascending-rises 1 (LAST_GTID + 1) (numbers_of t gs) (numbers-within t gs r)),
-    sets-canonical gs (t + 1) ts r h.2 a.1)
+sets-canonical gs low (t ∷ ts) r h a = (
+  h.0,
+  h.1,
+  intervals-some (ascending (numbers_of t gs)) (ascending-some (numbers_of t gs) (numbers-some t gs a.0)),
+  intervals-merged 0 1 (ascending (numbers_of t gs)) (omega arith) (ascending-rises 1 (LAST_GTID + 1) (numbers_of t gs) (numbers-within t gs r)),
+  sets-canonical gs (t + 1) ts r h.2 a.1,
+)
 
 pub is_canonical_of_any : IsCanonicalOfAny
 is_canonical_of_any gs r =

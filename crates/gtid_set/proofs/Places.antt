@@ -1,21 +1,21 @@
 -- The intervals before the count stay as they are, whatever is put in or taken out behind them; what happens behind is told by the next interval alone.
-use Rattle.std.proofs.Common.{◌≡◌, ℕ, zero, suc, ◌+◌, ◌-◌, ◌<◌, ◌≤◌, Bool, true, false, cond, List, [], ◌∷◌, ◌++◌, length, get_or, set, take, drop, max, min, nat_lt, nat_le, refl, sym, ap, ◌∙◌, add-one, append_assoc, arith}
-use Rattle.std.specs.List.{insert, remove, list_any}
+use Rattle.std.proofs.Common.{◌≡◌, ℕ, suc, ◌+◌, ◌-◌, ◌<◌, ◌≤◌, Bool, true, false, cond, List, [], ◌∷◌, ◌++◌, length, get_or, set, take, drop, max, min, nat_lt, nat_le, refl, sym, ap, ◌∙◌, add-one, append_assoc, arith}
+use Rattle.std.specs.List.{insert, list_any}
 use Rattle.std.proofs.lemmas.Bool.Decides.{nat_tests}
-use Rattle.std.proofs.lemmas.List.{drop_more, drop_all, set_split, set_at, take_at, take_more, take_all, append-nil, drop_at, length-take-le}
+use Rattle.std.proofs.lemmas.List.{drop_more, drop_all, set_split, set_at, take_more, take_all, append-nil, length-take-le}
 use Rattle.ring_types.specs.Gtids.{interval_has}
 use Rattle.ring_types.specs.declared.gtid_sets.Interval.{Interval}
 use Rattle.gtid_set.specs.Canonical.{AreMerged}
-use Rattle.gtid_set.specs.Ranges.{ends_before, begins_by, swallowed, put_first, with_range, part_below, part_above, cut_out, without}
+use Rattle.gtid_set.specs.Ranges.{ends_before, begins_by, swallowed, put_first, with_range, cut_out, without}
 
 -- what is left from a place on, by the interval there
-pub from_place : (k : ℕ) (x : Interval) (is : List Interval) → k < length is → x ≡ get_or is k x → drop k is ≡ x ∷ drop (k + 1) is
+from_place : (k : ℕ) (x : Interval) (is : List Interval) → k < length is → x ≡ get_or is k x → drop k is ≡ x ∷ drop (k + 1) is
 from_place k x is lt e = drop_more is k x lt ∙ ap (λ (y : Interval). y ∷ drop (k + 1) is) (sym e)
 
-pub begins-place : (n k : ℕ) (x : Interval) (is : List Interval) → k < length is → x ≡ get_or is k x → begins_by n (drop k is) ≡ nat_le x.first n
+begins-place : (n k : ℕ) (x : Interval) (is : List Interval) → k < length is → x ≡ get_or is k x → begins_by n (drop k is) ≡ nat_le x.first n
 begins-place n k x is lt e = ap (begins_by n) (from_place k x is lt e)
 
-pub begins-none : (n k : ℕ) (is : List Interval) → length is ≤ k → begins_by n (drop k is) ≡ false
+begins-none : (n k : ℕ) (is : List Interval) → length is ≤ k → begins_by n (drop k is) ≡ false
 begins-none n k is le = ap (begins_by n) (drop_all k is le)
 
 -- ---- a range
@@ -50,18 +50,6 @@ range_joined a b k x is e lt read h =
     ∙ sym (range_split a b is)
 
 -- ---- a range that takes in what it touches
-swallow_next : (a b : ℕ) (i : Interval) (is : List Interval) → nat_le i.first (b + 1) ≡ true → swallowed a b (i ∷ is) ≡ swallowed a (max b i.last) is
-swallow_next a b i is h = rw h refl
-
-pub swallow_more : (a b k : ℕ) (x : Interval) (is : List Interval) → k < length is → x ≡ get_or is k x → begins_by (b + 1) (drop k is) ≡ true
-    → swallowed a b (drop k is) ≡ swallowed a (max b x.last) (drop k (remove is k))
-swallow_more a b k x is lt read h =
-    let t : nat_le x.first (b + 1) ≡ true = sym (begins-place (b + 1) k x is lt read) ∙ h in
-    let rest : drop k (remove is k) ≡ drop (suc k) is = drop_at (take k is) (drop (suc k) is) k (length-take-le k is (omega arith)) in
-    ap (swallowed a b) (from_place k x is lt read)
-    ∙ swallow_next a b x (drop (k + 1) is) t
-    ∙ sym (ap (swallowed a (max b x.last)) (rest ∙ ap (λ (j : ℕ). drop j is) (sym (add-one k))))
-
 swallow_alone : (a b : ℕ) (is : List Interval) → begins_by (b + 1) is ≡ false → swallowed a b is ≡ record { first = a; last = b } ∷ is
 swallow_alone a b [] h = refl
 swallow_alone a b (i ∷ is) h = rw h refl
@@ -79,7 +67,7 @@ without_by : (n : ℕ) (i : Interval) (is : List Interval) (t : Bool) → withou
 without_by n i is true more = ap (λ (ys : List Interval). i ∷ ys) more
 without_by n i is false more = refl
 
-pub without_split : (n : ℕ) (is : List Interval) → without n is ≡ take (ends_before n is) is ++ cut_out n (drop (ends_before n is) is)
+without_split : (n : ℕ) (is : List Interval) → without n is ≡ take (ends_before n is) is ++ cut_out n (drop (ends_before n is) is)
 without_split n [] = refl
 without_split n (i ∷ is) = without_by n i is (nat_lt i.last n) (without_split n is)
 

@@ -1,5 +1,5 @@
 -- A range joins only intervals that it touches, so that between them no number is gained; a number that is cut out parts one interval. The lists stay merged.
-use Rattle.std.proofs.Common.{◌≡◌, ◌≢◌, ℕ, suc, ◌+◌, ◌-◌, ◌<◌, ◌≤◌, Bool, true, false, cond, not, ◌&&◌, ◌||◌, ◌==◌, List, [], ◌∷◌, ◌++◌, length, max, min, nat_lt, nat_le, refl, sym, ap, ◌∙◌, arith}
+use Rattle.std.proofs.Common.{◌≡◌, ℕ, ◌+◌, ◌-◌, ◌<◌, ◌≤◌, Bool, true, false, cond, not, ◌&&◌, ◌||◌, ◌==◌, List, [], ◌∷◌, ◌++◌, length, max, min, nat_lt, nat_le, refl, arith}
 use Rattle.std.specs.List.{list_any}
 use Rattle.std.proofs.lemmas.Bool.Decides.{nat_tests}
 use Rattle.ring_types.specs.Gtids.{interval_has}
@@ -98,7 +98,7 @@ with_range-some a b [] = omega arith
 with_range-some a b (i ∷ is) = range_some_by i (with_range a b is) (put_first a b (i ∷ is)) (nat_lt i.last (a - 1)) (put_first-some a b (i ∷ is))
 
 -- ---- a number taken out
-pub merged_lower : (low under : ℕ) (is : List Interval) → under ≤ low → AreMerged low is → AreMerged under is
+merged_lower : (low under : ℕ) (is : List Interval) → under ≤ low → AreMerged low is → AreMerged under is
 merged_lower low under [] le h = tt
 merged_lower low under (i ∷ is) le h = let l : low < i.first = h.0 in (omega arith, h.1, h.2, h.3)
 

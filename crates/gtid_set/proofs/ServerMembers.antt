@@ -1,15 +1,13 @@
 -- Servers ascend, so that those behind a place have none of an earlier server's numbers: a change at one server is a change of its numbers alone.
-use Rattle.std.proofs.Common.{◌≡◌, ◌≢◌, ℕ, suc, ◌+◌, ◌-◌, ◌^◌, ◌<◌, ◌≤◌, Bool, true, false, cond, not, ◌&&◌, ◌||◌, ◌==◌, List, [], ◌∷◌, ◌++◌, length, nat_lt, nat_le, refl, sym, ap, ◌∙◌, arith}
-use Rattle.std.specs.List.{list_any}
+use Rattle.std.proofs.Common.{◌≡◌, ℕ, ◌+◌, ◌^◌, ◌<◌, ◌≤◌, Bool, true, false, cond, not, ◌&&◌, ◌||◌, ◌==◌, List, [], ◌∷◌, ◌++◌, nat_lt, refl, ap, ◌∙◌, arith}
 use Rattle.std.proofs.lemmas.Bool.Decides.{nat_tests}
 use Rattle.ring_types.specs.Gtids.{has}
-use Rattle.ring_types.specs.declared.limits.TheConstants.{LAST_GTID}
 use Rattle.ring_types.specs.declared.gtid_sets.Interval.{Interval}
 use Rattle.ring_types.specs.declared.gtid_sets.ServerSet.{ServerSet}
 use Rattle.gtid_set.specs.Canonical.{AreMerged, AreCanonicalFrom, IsCanonical}
 use Rattle.gtid_set.specs.Ranges.{with_range, without}
 use Rattle.gtid_set.specs.Servers.{lone, range_here, range_in, ranges_in, sets_in, left, number_here, number_out}
-use Rattle.gtid_set.proofs.RangeMembers.{held, between, with_range-held, with_range-merged, with_range-some, without-held, without-merged, merged_lower}
+use Rattle.gtid_set.proofs.RangeMembers.{held, between, with_range-held, with_range-merged, with_range-some, without-held, without-merged}
 
 pub none_server : (low x n : ℕ) (set : List ServerSet) → AreCanonicalFrom low set → x < low → has set x n ≡ false
 none_server low x n [] h lt = refl
@@ -18,7 +16,7 @@ none_server low x n (s ∷ set) h lt =
     let more = none_server (s.server + 1) x n set h.4 (omega arith) in
     grind (arith, nat_tests, more)
 
-pub canonical_lower : (low under : ℕ) (set : List ServerSet) → under ≤ low → AreCanonicalFrom low set → AreCanonicalFrom under set
+canonical_lower : (low under : ℕ) (set : List ServerSet) → under ≤ low → AreCanonicalFrom low set → AreCanonicalFrom under set
 canonical_lower low under [] le h = tt
 canonical_lower low under (s ∷ set) le h = let l : low ≤ s.server = h.0 in (omega arith, h.1, h.2, h.3, h.4)
 
@@ -67,7 +65,7 @@ range_in-canonical low server i (s ∷ set) h le fits one =
 abbrev one_of : (low : ℕ) (i : Interval) (is : List Interval) → AreMerged low (i ∷ is) → AreMerged 0 (i ∷ [])
 one_of low i is h = let l : low < i.first = h.0 in (let z : 0 < i.first = omega arith in z, h.1, h.2, tt)
 
-pub ranges_in-canonical : (low server : ℕ) (is : List Interval) (set : List ServerSet) → IsCanonical set → server < 2 ^ 128 → AreMerged low is → IsCanonical (ranges_in server is set)
+ranges_in-canonical : (low server : ℕ) (is : List Interval) (set : List ServerSet) → IsCanonical set → server < 2 ^ 128 → AreMerged low is → IsCanonical (ranges_in server is set)
 ranges_in-canonical low server [] set h fits m = h
 ranges_in-canonical low server (i ∷ is) set h fits m =
     ranges_in-canonical (i.last + 1) server is (range_in server i set) (range_in-canonical 0 server i set h (omega arith) fits (one_of low i is m)) fits m.3
@@ -77,7 +75,7 @@ or_shared true p b c = refl
 or_shared false true b c = refl
 or_shared false false b c = refl
 
-pub ranges_in-has : (low server x m : ℕ) (is : List Interval) (set : List ServerSet) → IsCanonical set → server < 2 ^ 128 → AreMerged low is
+ranges_in-has : (low server x m : ℕ) (is : List Interval) (set : List ServerSet) → IsCanonical set → server < 2 ^ 128 → AreMerged low is
     → has (ranges_in server is set) x m ≡ (has set x m || (x == server && held m is))
 ranges_in-has low server x m [] set h fits g = grind (arith, nat_tests)
 ranges_in-has low server x m (i ∷ is) set h fits g =

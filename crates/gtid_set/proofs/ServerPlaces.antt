@@ -2,12 +2,12 @@
 use Rattle.std.proofs.Common.{◌≡◌, ℕ, zero, suc, ◌+◌, ◌<◌, ◌≤◌, Bool, true, false, cond, ◌==◌, List, [], ◌∷◌, ◌++◌, length, get_or, set, take, drop, nat_lt, refl, sym, ap, ap₂, subst, ◌∙◌, add-one, arith}
 use Rattle.std.specs.List.{insert, remove}
 use Rattle.std.proofs.lemmas.Bool.Decides.{nat_tests}
-use Rattle.std.proofs.lemmas.List.{drop_more, at_drop_more, get_or-set_same, drop_all, set_split, take-append-drop, take-set, drop-set-lt}
+use Rattle.std.proofs.lemmas.List.{drop_more, at_drop_more, get_or-set_same, set_split, take-append-drop, take-set, drop-set-lt}
 use Rattle.ring_types.specs.declared.gtid_sets.Interval.{Interval}
 use Rattle.ring_types.specs.declared.gtid_sets.ServerSet.{ServerSet}
 use Rattle.gtid_set.specs.Canonical.{AreMerged, AreCanonicalFrom, IsCanonical}
 use Rattle.gtid_set.specs.Ranges.{with_range, without}
-use Rattle.gtid_set.specs.Servers.{servers_below, begins_with, lone, range_here, range_in, ranges_in, left, number_here, number_out, first_intervals}
+use Rattle.gtid_set.specs.Servers.{servers_below, begins_with, lone, range_here, range_in, ranges_in, left, number_here, number_out}
 
 pub below_within : (server : ℕ) (xs : List ServerSet) → servers_below server xs ≤ length xs
 below_within server [] = omega arith
@@ -17,15 +17,15 @@ below_within server (s ∷ xs) = below_by (servers_below server xs) (length xs) 
     below_by e n true le = omega arith
     below_by e n false le = omega arith
 
-pub canonical_at : (low k : ℕ) (d : ServerSet) (xs : List ServerSet) → AreCanonicalFrom low xs → k < length xs → AreMerged 0 (get_or xs k d).intervals
+canonical_at : (low k : ℕ) (d : ServerSet) (xs : List ServerSet) → AreCanonicalFrom low xs → k < length xs → AreMerged 0 (get_or xs k d).intervals
 canonical_at low k d [] h lt = absurd (omega arith)
 canonical_at low zero d (s ∷ xs) h lt = h.3
 canonical_at low (suc k) d (s ∷ xs) h lt = canonical_at (s.server + 1) k d xs h.4 (omega arith)
 
-pub server_place : (k : ℕ) (x : ServerSet) (xs : List ServerSet) → k < length xs → x ≡ get_or xs k x → drop k xs ≡ x ∷ drop (k + 1) xs
+server_place : (k : ℕ) (x : ServerSet) (xs : List ServerSet) → k < length xs → x ≡ get_or xs k x → drop k xs ≡ x ∷ drop (k + 1) xs
 server_place k x xs lt e = drop_more xs k x lt ∙ ap (λ (y : ServerSet). y ∷ drop (k + 1) xs) (sym e)
 
-pub begins-server : (server k : ℕ) (x : ServerSet) (xs : List ServerSet) → k < length xs → x ≡ get_or xs k x → begins_with server (drop k xs) ≡ (x.server == server)
+begins-server : (server k : ℕ) (x : ServerSet) (xs : List ServerSet) → k < length xs → x ≡ get_or xs k x → begins_with server (drop k xs) ≡ (x.server == server)
 begins-server server k x xs lt e = ap (begins_with server) (server_place k x xs lt e)
 
 -- ---- a range put in

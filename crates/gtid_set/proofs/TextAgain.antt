@@ -1,13 +1,13 @@
 -- What a canonical set's text is read as is the set: no piece has the mark at which it is cut, and a number's digits and a uuid's tell it.
 use Rattle.std.proofs.Common.{◌≡◌, ℕ, zero, suc, ◌+◌, ◌-◌, ◌*◌, ◌/◌, ◌%◌, ◌^◌, ◌<◌, ◌≤◌, Bool, true, false, cond, ◌==◌, nat_lt, List, [], ◌∷◌, ◌++◌, length, get_or, map, min, Option, Some, None, refl, sym, ap, ap₂, subst, ◌∙◌, append_assoc, ◌⊎◌, inl, inr, arith}
 use Rattle.std.specs.Prelude.{codes, decimal}
-use Rattle.std.specs.List.{flat_map, slice_split, onto_first, AllByRecursion}
+use Rattle.std.specs.List.{flat_map, onto_first, AllByRecursion}
 use Rattle.std.specs.Option.{unwrap_or, option_map}
 use Rattle.std.specs.Int.{to_be_bytes, from_be_bytes, w128}
 use Rattle.std.proofs.lemmas.List.{append-nil}
 use Rattle.std.proofs.lemmas.Fmt.{decimal_by_steps}
 use Rattle.std.proofs.lemmas.Bool.Decides.{nat_tests}
-use Rattle.uuid.specs.Text.{by_index, hyphenated_text, hex_digit, nibble, digit_place, is_hyphen_place, hyphen, lower, parsed}
+use Rattle.uuid.specs.Text.{by_index, hex_digit, nibble, digit_place, is_hyphen_place, hyphen, lower}
 use Rattle.uuid.proofs.RoundTrips.{parses_hyphenated}
 use Rattle.uuid.proofs.OrderLemmas.{from_be_bytes-to_be_bytes_16}
 use Rattle.ring_types.specs.declared.gtid_sets.Interval.{Interval}
@@ -65,9 +65,9 @@ read_more : (n : ℕ) (ds : List ℕ) → 10 ≤ n → IsRead (n / 10) ds → Is
 read_more n ds big r = record {
   digits = digits-append ds ((48 + n % 10) ∷ []) r.digits ((omega arith, omega arith), tt);
   value = λ fits.
-  let before : number_after 0 ds ≡ n / 10 = r.value (omega arith) in
-  let last : min (min (n / 10 * 10) (2 ^ 64 - 1) + (48 + n % 10 - 48)) (2 ^ 64 - 1) ≡ n = omega arith in
-  after-append 0 ds ((48 + n % 10) ∷ []) ∙ ap (λ (m : ℕ). min (min (m * 10) (2 ^ 64 - 1) + (48 + n % 10 - 48)) (2 ^ 64 - 1)) before ∙ last;
+      let before : number_after 0 ds ≡ n / 10 = r.value (omega arith) in
+      let last : min (min (n / 10 * 10) (2 ^ 64 - 1) + (48 + n % 10 - 48)) (2 ^ 64 - 1) ≡ n = omega arith in
+      after-append 0 ds ((48 + n % 10) ∷ []) ∙ ap (λ (m : ℕ). min (min (m * 10) (2 ^ 64 - 1) + (48 + n % 10 - 48)) (2 ^ 64 - 1)) before ∙ last;
 }
 
 read_decimal : (n : ℕ) → n < 2 ^ 64 → IsRead n (decimal n)
@@ -95,7 +95,8 @@ range_free : (mark : ℕ) (i : Interval) → (mark < 45) ⊎ (57 < mark) → i.f
 range_free mark i m f l = go (i.first == i.last)
   where
     outside : (mark < 48) ⊎ (57 < mark)
-    outside = elim m [ | inl a ↦ inl (omega arith) | inr b ↦ inr b ]
+    outside = elim m [ inl a ↦ inl (omega arith) | inr b ↦ inr b ]
+
     go : (t : Bool) → IsFree mark (cond t (decimal i.first) (decimal i.first ++ codes "-" ++ decimal i.last))
     go true = digits-free mark (decimal i.first) outside (read_decimal i.first f).digits
     go false =
@@ -110,9 +111,9 @@ free-index mark zero f h = tt
 free-index mark (suc n) f h = free-append mark (by_index n f) (f n ∷ []) (free-index mark n f h) (h n, tt)
 
 digit_free : (mark d : ℕ) (h t : Bool) → nat_lt d 10 ≡ t → (mark ≡ 44) ⊎ (mark ≡ 58) → (cond h hyphen (cond t (48 + d) (lower + d - 10)) == mark) ≡ false
-digit_free mark d true t k m = elim m [ | inl e ↦ grind (arith, nat_tests, e) | inr e ↦ grind (arith, nat_tests, e) ]
-digit_free mark d false true k m = elim m [ | inl e ↦ grind (arith, nat_tests, e, k) | inr e ↦ grind (arith, nat_tests, e, k) ]
-digit_free mark d false false k m = elim m [ | inl e ↦ grind (arith, nat_tests, e, k) | inr e ↦ grind (arith, nat_tests, e, k) ]
+digit_free mark d true t k m = elim m [ inl e ↦ grind (arith, nat_tests, e) | inr e ↦ grind (arith, nat_tests, e) ]
+digit_free mark d false true k m = elim m [ inl e ↦ grind (arith, nat_tests, e, k) | inr e ↦ grind (arith, nat_tests, e, k) ]
+digit_free mark d false false k m = elim m [ inl e ↦ grind (arith, nat_tests, e, k) | inr e ↦ grind (arith, nat_tests, e, k) ]
 
 uuid_free : (mark server : ℕ) → (mark ≡ 44) ⊎ (mark ≡ 58) → IsFree mark (uuid_text server)
 unfolding uuid_text
@@ -168,7 +169,7 @@ servers_again low [] h = refl
 servers_again low (s ∷ set) h = ap₂ (λ (x : ServerSet) (xs : List ServerSet). x ∷ xs) (server_again low s set h) (servers_again (s.server + 1) set h.4)
 
 -- a text that is not empty is read piece by piece
-pub read_pieces : (bytes : List ℕ) → 0 < length bytes → set_in bytes ≡ map server_in (pieces 44 bytes)
+read_pieces : (bytes : List ℕ) → 0 < length bytes → set_in bytes ≡ map server_in (pieces 44 bytes)
 read_pieces [] lt = absurd (omega arith)
 read_pieces (b ∷ bs) lt = refl
 
@@ -176,7 +177,7 @@ uuid_long : (server : ℕ) (rest : List ℕ) → 0 < length (uuid_text server ++
 unfolding uuid_text by_index
 uuid_long server rest = omega arith
 
-pub text_again : (set : List ServerSet) → IsCanonical set → set_in (set_text set) ≡ set
+text_again : (set : List ServerSet) → IsCanonical set → set_in (set_text set) ≡ set
 text_again [] h = refl
 text_again (s ∷ set) h =
     let free = servers_free 0 (s ∷ set) h in

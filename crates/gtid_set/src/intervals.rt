@@ -126,15 +126,30 @@ fn cut(intervals: &mut Vec<Interval>, at: usize, number: u64) -> Result<(), Memo
     }
     if first < number {
         if number < last {
-            intervals.insert(at + 1, Interval { first: number + 1, last })?;
-            intervals[at] = Interval { first, last: number - 1 };
+            intervals.insert(
+                at + 1,
+                Interval {
+                    first: number + 1,
+                    last,
+                },
+            )?;
+            intervals[at] = Interval {
+                first,
+                last: number - 1,
+            };
             Ok(())
         } else {
-            intervals[at] = Interval { first, last: number - 1 };
+            intervals[at] = Interval {
+                first,
+                last: number - 1,
+            };
             Ok(())
         }
     } else if number < last {
-        intervals[at] = Interval { first: number + 1, last };
+        intervals[at] = Interval {
+            first: number + 1,
+            last,
+        };
         Ok(())
     } else {
         intervals.remove(at);

@@ -227,10 +227,7 @@ pub(crate) fn take_number(
 }
 
 /// Copies of these, in order.
-pub(crate) fn copies(
-    alloc: Global,
-    servers: &[ServerNumbers],
-) -> Result<Vec<ServerNumbers>, Memory>
+pub(crate) fn copies(alloc: Global, servers: &[ServerNumbers]) -> Result<Vec<ServerNumbers>, Memory>
     ensures { IfOk result (λ it. it.items ≡ servers.now) }
 {
     let mut copies = Vec::new(alloc);

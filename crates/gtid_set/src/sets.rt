@@ -5,7 +5,9 @@ ghost use Rattle.gtid_set.specs.Members.{HasAlso, HasAllBut, HasBoth};
 ghost use Rattle.gtid_set.specs.Next.{next_in};
 
 use crate::intervals::{greatest, have};
-use crate::servers::{ServerNumbers, are_canonical, copies, intervals_of, put_range, put_sets, take_number};
+use crate::servers::{
+    ServerNumbers, are_canonical, copies, intervals_of, put_range, put_sets, take_number,
+};
 use ring_types::{Duplicate, Gtid, Interval, LAST_GTID, Memory};
 use std::alloc::Global;
 use std::marker::Model;

@@ -130,7 +130,11 @@ fn other_spellings_are_refused(rt: HostRuntime) {
         "3e11fa4771ca11e19e33c80aa9429562:1-3:5",
         "\n",
     ] {
-        assert_eq!(rt; refusal(rt.alloc(), text), Some(SetError::NotText), "at {text}");
+        assert_eq!(rt;
+            refusal(rt.alloc(), text),
+            Some(SetError::NotText),
+            "at {text}"
+        );
     }
 }
 
@@ -150,7 +154,11 @@ fn one_line_feed_may_stand_behind_a_comma(rt: HostRuntime) -> Result<(), Fail> {
         "00000000-0000-0000-0000-00000000000a:7,\n\n3e11fa47-71ca-11e1-9e33-c80aa9429562:1-3:5",
         "3e11fa47-71ca-11e1-9e33-c80aa9429562:1-3:5,00000000-0000-0000-0000-00000000000a:7",
     ] {
-        assert_eq!(rt; refusal(rt.alloc(), text), Some(SetError::NotText), "at {text}");
+        assert_eq!(rt;
+            refusal(rt.alloc(), text),
+            Some(SetError::NotText),
+            "at {text}"
+        );
     }
     Ok(())
 }

@@ -1,4 +1,4 @@
-use Rattle.std.proofs.Common.{◌≡◌, ◌<◌, ◌≤◌, ◌+◌, ◌++◌, ◌-◌, ◌∙◌, sym, ap₂, length, take, drop, arith, rules}
+use Rattle.std.proofs.Common.{◌<◌, ◌+◌, ◌++◌, ◌-◌, ◌∙◌, sym, ap₂, length, take, drop, arith, rules}
 use Rattle.gtid_set.specs.Ranges.{swallowed}
 use Rattle.gtid_set.proofs.Ends.{ends_within}
 use Rattle.gtid_set.proofs.Places.{range_put, range_joined}

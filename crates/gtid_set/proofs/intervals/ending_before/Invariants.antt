@@ -7,7 +7,7 @@ abbrev pub invariant-loop-low : goal.invariant-loop-low
 invariant-loop-low l = record {
   above : l.low ≤ ends_before l.number l.intervals;
   below : ends_before l.number l.intervals ≤ l.high;
-  within : l.high ≤ length l.intervals
+  within : l.high ≤ length l.intervals;
 }
 
 abbrev pub decreases-loop-low : goal.decreases-loop-low

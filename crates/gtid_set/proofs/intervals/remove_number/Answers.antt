@@ -1,7 +1,5 @@
-use Rattle.std.proofs.Common.{◌≡◌, ◌++◌, ◌≤◌, ◌∙◌, sym, ap, length, take, drop, arith}
-use Rattle.std.proofs.lemmas.List.{take_all, drop_all, append-nil}
+use Rattle.std.proofs.Common.{◌≤◌, ◌∙◌, length, arith}
 use Rattle.std.proofs.lemmas.Result.{on_ok_weaker}
-use Rattle.gtid_set.specs.Ranges.{cut_out}
 use Rattle.gtid_set.proofs.Places.{without_none, without_here}
 use Rattle.gtid_set.proofs.intervals.remove_number.Goals as goal
 

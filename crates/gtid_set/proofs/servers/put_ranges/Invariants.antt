@@ -7,5 +7,5 @@ use Rattle.gtid_set.proofs.servers.put_ranges.Given as goal
 abbrev pub invariant-loop-range : goal.invariant-loop-range
 invariant-loop-range l = record {
   whole : ranges_in l.server (drop l.range-index l.ranges) l.servers.items ≡ ranges_in l.server l.ranges l.initial.servers.items;
-  canonical : IsCanonical l.servers.items
+  canonical : IsCanonical l.servers.items;
 }

@@ -7,5 +7,5 @@ use Rattle.gtid_set.proofs.servers.put_sets.Given as goal
 abbrev pub invariant-loop-set : goal.invariant-loop-set
 invariant-loop-set l = record {
   whole : sets_in (drop l.set-index l.sets) l.servers.items ≡ sets_in l.sets l.initial.servers.items;
-  canonical : IsCanonical l.servers.items
+  canonical : IsCanonical l.servers.items;
 }

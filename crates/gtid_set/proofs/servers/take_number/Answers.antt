@@ -1,7 +1,5 @@
-use Rattle.std.proofs.Common.{◌≡◌, ◌∙◌, sym, ap, subst, List, [], ◌<◌, length, false, true, rules}
-use Rattle.std.specs.Prelude.{slice_set, ◌==◌}
-use Rattle.std.specs.List.{remove}
-use Rattle.ring_types.specs.declared.gtid_sets.Interval.{Interval}
+use Rattle.std.proofs.Common.{◌≡◌, ◌∙◌, sym, ap, subst, [], ◌<◌, length, rules}
+use Rattle.std.specs.Prelude.{slice_set}
 use Rattle.ring_types.specs.declared.gtid_sets.ServerSet.{ServerSet}
 use Rattle.gtid_set.specs.Ranges.{without}
 use Rattle.gtid_set.proofs.ServerPlaces.{canonical_read, none_left, some_left, take_none, take_part, take_whole}

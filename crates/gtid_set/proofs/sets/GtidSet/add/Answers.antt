@@ -1,6 +1,5 @@
-use Rattle.std.proofs.Common.{◌≡◌, ◌<◌, ◌≤◌, ◌^◌, Bool, ◌&&◌, ◌||◌, ◌==◌, ◌∙◌, ap, arith, rules}
+use Rattle.std.proofs.Common.{◌<◌, ◌^◌, Bool, ◌&&◌, ◌||◌, ◌==◌, ◌∙◌, ap, arith, rules}
 use Rattle.ring_types.specs.Gtids.{has}
-use Rattle.gtid_set.specs.Canonical.{IsCanonical}
 use Rattle.gtid_set.proofs.Looking.{one_number}
 use Rattle.gtid_set.proofs.ServerMembers.{range_in-canonical, range_in-has}
 use Rattle.gtid_set.proofs.sets.GtidSet.add.Goals as goal

@@ -1,4 +1,4 @@
-use Rattle.std.proofs.Common.{◌≡◌, ◌∙◌, ap}
+use Rattle.std.proofs.Common.{◌∙◌, ap}
 use Rattle.gtid_set.specs.Servers.{intervals_of}
 use Rattle.gtid_set.proofs.RangeMembers.{held}
 use Rattle.gtid_set.proofs.Looking.{intervals_of-merged, intervals_of-has}

@@ -1,4 +1,4 @@
-use Rattle.std.proofs.Common.{◌≡◌, ◌∙◌, ap, sym, arith}
+use Rattle.std.proofs.Common.{◌∙◌, ap, sym}
 use Rattle.gtid_set.specs.Ranges.{end_behind}
 use Rattle.gtid_set.specs.Servers.{intervals_of}
 use Rattle.gtid_set.proofs.Looking.{greatest_is, next_some, next_none}

@@ -1,6 +1,3 @@
-use Rattle.std.proofs.Common.{◌≡◌, ◌∙◌, ◌||◌, Bool, ap, List}
-use Rattle.ring_types.specs.Gtids.{has}
-use Rattle.gtid_set.specs.Canonical.{IsCanonical}
 use Rattle.gtid_set.proofs.ServerMembers.{sets_in-canonical, sets_in-has}
 use Rattle.gtid_set.proofs.sets.GtidSet.union.Goals as goal
 
