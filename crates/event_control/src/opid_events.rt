@@ -1,4 +1,4 @@
-ghost use Rattle.std.specs.Prelude.{◌≡◌, ◌≤◌, ◌++◌, length, take, OnOk, OnErr};
+ghost use Rattle.std.specs.Prelude.{◌≡◌, ◌≤◌, ◌++◌, length, take, IfOk, OnOk, OnErr};
 ghost use Rattle.event_frame.specs.Forms.{body_of};
 ghost use Rattle.event_frame.specs.Reading.{Gives};
 ghost use Rattle.event_control.specs.Bodies.{opid_form, opid_body};
@@ -22,7 +22,8 @@ pub struct OpidEvent {
 
 /// The opid event at the front of the bytes, which stand at this offset of their file.
 pub fn read_opid(bytes: &[u8], at: u64) -> Result<OpidEvent, ControlError>
-    ensures { result ≡ opid_event_at bytes.now at }
+    ensures given { result ≡ opid_event_at bytes.now at }
+    ensures end { IfOk result (λ e. e.size ≤ length bytes.now) }
 {
     let event = due_at(bytes, IGNORABLE, MAY_IGNORE, at)?;
     let (kind, opid, region) = opid_in(body_in(&event, bytes))?;

@@ -1,4 +1,4 @@
-ghost use Rattle.std.specs.Prelude.{◌≡◌, ◌+◌, ◌/◌, ◌%◌, ◌≤◌, ◌++◌, length, take, OnOk, OnErr, Some, None, if◌then◌else◌};
+ghost use Rattle.std.specs.Prelude.{◌≡◌, ◌+◌, ◌/◌, ◌%◌, ◌≤◌, ◌++◌, length, take, IfOk, OnOk, OnErr, Some, None, if◌then◌else◌};
 ghost use Rattle.std.specs.List.{list_all};
 ghost use Rattle.event_frame.specs.Forms.{body_of, found};
 ghost use Rattle.event_frame.specs.Reading.{Gives};
@@ -22,7 +22,8 @@ pub struct Rotation {
 
 /// The ROTATE at the front of the bytes, which stand at this offset of their file.
 pub fn read_rotate(bytes: &[u8], at: u64) -> Result<Rotation, ControlError>
-    ensures { result ≡ rotation_at bytes.now at }
+    ensures given { result ≡ rotation_at bytes.now at }
+    ensures end { IfOk result (λ r. r.size ≤ length bytes.now) }
 {
     let event = due_at(bytes, ROTATE, 0, at)?;
     let next_file = next_in(body_in(&event, bytes))?;
@@ -106,11 +107,12 @@ fn put_body(out: &mut Vec<u8>, next_file: u32) -> Result<(), Memory>
 {
     out.extend_from_slice(&4u64.to_le_bytes())?;
     out.extend_from_slice(b"binlog.")?;
-    out.extend_from_slice(&six_digits(next_file))?;
+    out.extend_from_slice(&six_digits(next_file as u64))?;
     Ok(())
 }
 
-fn six_digits(number: u32) -> [u8; 6]
+/// The digits that a file's name has behind `binlog.`: the six lowest of its number.
+pub fn six_digits(number: u64) -> [u8; 6]
     ensures { result ≡ six_digits number }
 {
     [
@@ -123,7 +125,7 @@ fn six_digits(number: u32) -> [u8; 6]
     ]
 }
 
-fn digit(number: u32, weight: u32) -> u8
+fn digit(number: u64, weight: u64) -> u8
     requires { 1 ≤ weight }
     ensures { result ≡ 48 + number / weight % 10 }
 {

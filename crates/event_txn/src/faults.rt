@@ -1,5 +1,5 @@
 ghost use Rattle.std.specs.Prelude.{◌≡◌};
-ghost use Rattle.event_txn.specs.Reading.{fault_of};
+ghost use Rattle.event_txn.specs.Reading.{fault_of, offset_of};
 ghost use Rattle.event_txn.specs.Txns.{fault_at};
 ghost use Rattle.event_txn.specs.declared.faults.RowError.TheVariants.{Memory, Fault};
 ghost use Rattle.event_txn.specs.declared.faults.TxnError.TheVariants as error;
@@ -94,7 +94,8 @@ pub fn fault_of(wrong: BodyFault, fault: FieldFault) -> BodyFault
 
 /// The fault of a body, with its event's offset.
 pub fn fault_at(offset: u64, fault: BodyFault) -> TxnError
-    ensures { result ≡ fault_at offset fault }
+    ensures value { result ≡ fault_at offset fault }
+    ensures offset { offset_of result ≡ offset }
 {
     match fault {
         BodyFault::Field => TxnError::Field { at: offset },

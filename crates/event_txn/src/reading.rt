@@ -4,7 +4,7 @@ ghost use Rattle.event_frame.specs.Forms.{front_of};
 ghost use Rattle.event_frame.specs.Events.{event_at};
 ghost use Rattle.event_frame.specs.Reading.{Gives};
 ghost use Rattle.ring_types.specs.Rings.{is_schema};
-ghost use Rattle.event_txn.specs.Reading.{GivesTxn, Reads};
+ghost use Rattle.event_txn.specs.Reading.{FaultsBy, GivesTxn, Reads, offset_of};
 ghost use Rattle.event_txn.specs.Txns.{event_of, due_gtid, due_begin, due_table, due_rows, due_more, changes_form, txn_at, refusal_of, change_in};
 ghost use Rattle.event_txn.specs.declared.faults.TxnError.TheVariants as error;
 
@@ -72,6 +72,7 @@ fn gtid_event<'a>(
 ) -> Result<(Gtid, u64, &'a [u8]), TxnError>
     ensures given { GivesTxn (λ x. ((x.0, x.1), x.2.now)) result (event_of place.at 0 (due_gtid schema.now place.sequence) bytes.now) }
     ensures size { IfOk result (λ x. x.1 + length x.2.now ≡ length bytes.now) }
+    ensures fault { FaultsBy 0 result }
 {
     let front = match front_at(bytes, place.at, 0) {
         Ok(front) => front,
@@ -92,6 +93,7 @@ fn begin_event(bytes: &[u8], at: u64, offset: u64) -> Result<(u64, &[u8]), TxnEr
     requires { offset + length bytes.now < 2 ^ 64 }
     ensures given { GivesTxn (λ x. ((tt, x.0), x.1.now)) result (event_of at offset due_begin bytes.now) }
     ensures size { IfOk result (λ x. x.0 + length x.1.now ≡ offset + length bytes.now) }
+    ensures fault { FaultsBy offset result }
 {
     let front = match front_at(bytes, at, offset) {
         Ok(front) => front,
@@ -117,6 +119,7 @@ fn table_event<'a>(
     ensures given { GivesTxn (λ x. ((x.0, x.1), x.2.now)) result (event_of asked.now.at offset (due_table asked.now.schema.now) bytes.now) }
     ensures size { IfOk result (λ x. x.1 + length x.2.now ≡ offset + length bytes.now) }
     ensures place { IfOk result (λ x. x.0 < length asked.now.schema.now.tables) }
+    ensures fault { FaultsBy offset result }
 {
     let front = match front_at(bytes, asked.at, offset) {
         Ok(front) => front,
@@ -142,6 +145,7 @@ fn next_event<'a>(
     ensures given { GivesTxn (λ x. ((x.0, x.1), x.2.now)) result (event_of asked.now.at offset (due_more asked.now.schema.now asked.now.position) bytes.now) }
     ensures size { IfOk result (λ x. x.1 + length x.2.now ≡ offset + length bytes.now) }
     ensures place { IfOk result (λ x. IfSome x.0 (λ place. place < length asked.now.schema.now.tables)) }
+    ensures fault { FaultsBy offset result }
 {
     let front = match front_at(bytes, asked.at, offset) {
         Ok(front) => front,
@@ -164,7 +168,8 @@ fn next_event<'a>(
 
 /// Why a row's event is refused.
 fn refused(offset: u64, error: RowError) -> TxnError
-    ensures { result ≡ refusal_of offset error }
+    ensures value { result ≡ refusal_of offset error }
+    ensures fault { offset_of result ≤ offset }
 {
     match error {
         RowError::Memory => TxnError::Memory,
@@ -220,6 +225,7 @@ fn row_event<'a>(
     requires offset { offset + length bytes.now < 2 ^ 64 }
     ensures given { GivesTxn (λ x. ((x.0, x.1), x.2.now)) result (event_of asked.now.at offset (due_rows asked.now.schema.now place) bytes.now) }
     ensures size { IfOk result (λ x. x.1 + length x.2.now ≡ offset + length bytes.now) }
+    ensures fault { FaultsBy offset result }
 {
     let front = match front_at(bytes, asked.at, offset) {
         Ok(front) => front,
@@ -249,7 +255,9 @@ fn changes_of<'a>(
     requires schema { is_schema asked.now.schema.now ≡ true }
     requires first { first < length asked.now.schema.now.tables }
     requires begin { begin + length bytes.now < 2 ^ 64 }
-    ensures { GivesTxn (λ x. ((x.0, x.1), x.2.now)) result (front_of (error.Order 0) (changes_form limit asked.now.schema.now asked.now.position asked.now.at first begin) bytes.now) }
+    ensures fault { FaultsBy (begin + length bytes.now) result }
+    ensures end { IfOk result (λ x. x.1 ≤ begin + length bytes.now) }
+    ensures given { GivesTxn (λ x. ((x.0, x.1), x.2.now)) result (front_of (error.Order 0) (changes_form limit asked.now.schema.now asked.now.position asked.now.at first begin) bytes.now) }
 {
     let mut changes = List::new(alloc);
     let mut rest = bytes;
@@ -283,7 +291,9 @@ pub fn read_txn(
     place: Place,
 ) -> Result<TxnRead, TxnError>
     requires { is_schema schema.now ≡ true }
-    ensures { GivesTxn (λ read. read) result (txn_at schema.now bytes.now position place) }
+    ensures given { GivesTxn (λ read. read) result (txn_at schema.now bytes.now position place) }
+    ensures fault { FaultsBy (length bytes.now) result }
+    ensures end { IfOk result (λ read. read.size ≤ length bytes.now) }
 {
     let asked = Asked {
         schema,
