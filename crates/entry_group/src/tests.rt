@@ -1,0 +1,257 @@
+//! A file with a NoOp and one insert, the sizes of two files, and what is refused where a group is due.
+ghost use Rattle.std.specs.Prelude.{◌≡◌, true};
+ghost use Rattle.ring_types.specs.Rings.{is_schema};
+ghost use Rattle.ring_types.specs.Rows.{payload_fits};
+
+use crate::{EntryError, EntryRead, file_sizes, group_size, read_entry, write_entry};
+use event_control::{write_head, write_opid, write_rotate};
+use event_frame::{crc32, write_event};
+use ring_plain::payload_fits;
+use ring_types::{
+    Change, Column, Entry, Gtid, Kind, List, MemberPart, Memory, Opid, Payload, Place, RegionId,
+    Ring, RingParts, Schema, Shape, Table, Text, Txn, Value,
+};
+use std::alloc::Global;
+use std::process::Abort;
+use std::test::Fail;
+
+const SERVER: u128 = 0x3e11fa47_71ca_11e1_9e33_c80aa9429562;
+
+/// Behind the head of the first file.
+const FIRST: Place = Place {
+    file: 1,
+    at: 157,
+    sequence: 1,
+};
+
+/// Behind the first NoOp.
+const SECOND: Place = Place {
+    file: 1,
+    at: 199,
+    sequence: 1,
+};
+
+fn column(alloc: Global, name: &str, shape: Shape) -> Result<Column, Memory> {
+    Ok(Column {
+        name: Text::copy_of(alloc, name)?,
+        shape,
+    })
+}
+
+fn table(alloc: Global) -> Result<Table, Memory> {
+    let mut columns = List::of_one(alloc, column(alloc, "id", Shape::Int)?)?;
+    columns.push(column(alloc, "name", Shape::Text { limit: 20 })?)?;
+    Ok(Table {
+        name: Text::copy_of(alloc, "t")?,
+        columns,
+    })
+}
+
+fn member(alloc: Global) -> Result<MemberPart, Memory> {
+    Ok(MemberPart {
+        id: 1,
+        region: Text::copy_of(alloc, "east")?,
+        kind: Kind::Full,
+        server: SERVER,
+        address: None,
+    })
+}
+
+/// A ring of one node with the table `t (id int, name text 20)` in the database `app`.
+fn ring(rt: &impl Abort, alloc: Global) -> Result<Ring, Fail> {
+    let parts = RingParts {
+        home: Text::copy_of(alloc, "east")?,
+        regions: List::of_one(alloc, Text::copy_of(alloc, "east")?)?,
+        members: List::of_one(alloc, member(alloc)?)?,
+        clients: List::new(alloc),
+        schema: Schema {
+            database: Text::copy_of(alloc, "app")?,
+            tables: List::of_one(alloc, table(alloc)?)?,
+        },
+    };
+    assert!(rt; parts.is_in_range());
+    Ok(Ring::build(alloc, parts)?)
+}
+
+fn schema_of(ring: &Ring) -> &Schema
+    ensures { is_schema result.now ≡ true }
+{
+    ring.law_built();
+    ring.schema()
+}
+
+fn row(alloc: Global, key: i64, name: Value) -> Result<List<Value>, Memory> {
+    let mut row = List::of_one(alloc, Value::Int(key))?;
+    row.push(name)?;
+    Ok(row)
+}
+
+fn insert(alloc: Global, key: i64, name: &str) -> Result<Change, Memory> {
+    Ok(Change::Insert {
+        table: Text::copy_of(alloc, "t")?,
+        row: row(alloc, key, Value::Text(Text::copy_of(alloc, name)?))?,
+    })
+}
+
+fn txn(number: u64, changes: List<Change>) -> Payload {
+    let gtid = Gtid {
+        server: SERVER,
+        number,
+    };
+    Payload::Txn(Txn { gtid, changes })
+}
+
+/// The entry of term 1 and region 1 at this position.
+fn entry(position: u64, payload: Payload) -> Entry {
+    Entry {
+        opid: Opid { term: 1, position },
+        region: RegionId(1),
+        payload,
+    }
+}
+
+fn inserted(alloc: Global) -> Result<Entry, Memory> {
+    let changes = List::of_one(alloc, insert(alloc, 7, "a")?)?;
+    Ok(entry(2, txn(1, changes)))
+}
+
+/// Puts the group of an entry that fits, at a place where it can stand.
+fn put(
+    rt: &impl Abort,
+    out: &mut Vec<u8>,
+    schema: &Schema,
+    entry: &Entry,
+    place: Place,
+) -> Result<(), Memory>
+    requires { is_schema schema.now ≡ true }
+{
+    assert!(rt; payload_fits(schema, &entry.payload));
+    assert!(rt; place.file < 999_999 && 1 <= place.sequence && 1 <= schema.tables.len());
+    write_entry(out, schema, entry, place)
+}
+
+#[test]
+fn a_file_with_one_insert(rt: HostRuntime) -> Result<(), Fail> {
+    let ring = ring(&rt, rt.alloc())?;
+    let schema = schema_of(&ring);
+    let first = entry(1, Payload::NoOp);
+    let second = inserted(rt.alloc())?;
+    assert_eq!(rt; group_size(schema, &second.payload), 272);
+    let mut file = Vec::new(rt.alloc());
+    write_head(&mut file, &[0; 8])?;
+    put(&rt, &mut file, schema, &first, FIRST)?;
+    put(&rt, &mut file, schema, &second, SECOND)?;
+    assert_eq!(rt; file.len(), 471);
+    assert_eq!(rt; crc32(file.as_slice()), 0xed2e_e0f6);
+    let found = read_entry(rt.alloc(), schema, &file[157..], FIRST);
+    assert_eq!(rt;
+        found,
+        Ok(EntryRead {
+            entry: first,
+            size: 42
+        })
+    );
+    let found = read_entry(rt.alloc(), schema, &file[199..], SECOND);
+    assert_eq!(rt;
+        found,
+        Ok(EntryRead {
+            entry: second,
+            size: 272
+        })
+    );
+    Ok(())
+}
+
+/// A delete of row 1 behind an insert of row 2.
+fn two_changes(alloc: Global) -> Result<List<Change>, Memory> {
+    let mut changes = List::of_one(alloc, insert(alloc, 2, "it's")?)?;
+    changes.push(Change::Delete {
+        table: Text::copy_of(alloc, "t")?,
+        key: Value::Int(1),
+    })?;
+    Ok(changes)
+}
+
+fn updated(alloc: Global) -> Result<Change, Memory> {
+    Ok(Change::Update {
+        table: Text::copy_of(alloc, "t")?,
+        row: row(alloc, 1, Value::Null)?,
+    })
+}
+
+/// A NoOp, an insert, an update, two changes at once, and a Rotate.
+fn rotated(alloc: Global) -> Result<List<Entry>, Memory> {
+    let mut log = List::of_one(alloc, entry(1, Payload::NoOp))?;
+    log.push(entry(2, txn(1, List::of_one(alloc, insert(alloc, 1, "x")?)?)))?;
+    log.push(entry(3, txn(2, List::of_one(alloc, updated(alloc)?)?)))?;
+    log.push(entry(4, txn(3, two_changes(alloc)?)))?;
+    log.push(entry(5, Payload::Rotate))?;
+    Ok(log)
+}
+
+#[test]
+fn sizes_of_two_files(rt: HostRuntime) -> Result<(), Fail> {
+    let ring = ring(&rt, rt.alloc())?;
+    let log = rotated(rt.alloc())?;
+    let sizes = file_sizes(rt.alloc(), schema_of(&ring), log.as_slice())?;
+    assert_eq!(rt; sizes.as_slice(), [1202, 197].as_slice());
+    Ok(())
+}
+
+fn refusal(rt: &HostRuntime, bytes: &[u8], place: Place) -> Result<Option<EntryError>, Fail> {
+    let ring = ring(rt, rt.alloc())?;
+    Ok(read_entry(rt.alloc(), schema_of(&ring), bytes, place).err())
+}
+
+fn not(at: u64, why: u8) -> Option<EntryError> {
+    Some(EntryError::NotAnEntry { at, why })
+}
+
+#[test]
+fn a_kind_that_no_entry_has(rt: HostRuntime) -> Result<(), Fail> {
+    let mut bytes = Vec::new(rt.alloc());
+    write_event(
+        &mut bytes,
+        28,
+        0x80,
+        &[4, 1, 0, 0, 0, 0, 0, 0, 0, 1, 0, 0, 0, 0, 0, 0, 0, 1, 0],
+        157,
+    )?;
+    assert!(rt; refusal(&rt, bytes.as_slice(), FIRST)? == not(0, 1));
+    assert!(rt; refusal(&rt, &[], FIRST)? == not(0, 1));
+    Ok(())
+}
+
+#[test]
+fn a_rotation_to_another_file(rt: HostRuntime) -> Result<(), Fail> {
+    let mut bytes = Vec::new(rt.alloc());
+    let opid = Opid {
+        term: 1,
+        position: 1,
+    };
+    write_opid(&mut bytes, 2, opid, RegionId(1), 157)?;
+    write_rotate(&mut bytes, 3, 199)?;
+    assert!(rt; refusal(&rt, bytes.as_slice(), FIRST)? == not(42, 2));
+    Ok(())
+}
+
+#[test]
+fn a_transaction_without_a_number(rt: HostRuntime) -> Result<(), Fail> {
+    let ring = ring(&rt, rt.alloc())?;
+    let mut bytes = Vec::new(rt.alloc());
+    put(
+        &rt,
+        &mut bytes,
+        schema_of(&ring),
+        &inserted(rt.alloc())?,
+        SECOND,
+    )?;
+    let unnumbered = Place {
+        file: 1,
+        at: 199,
+        sequence: 0,
+    };
+    assert!(rt; refusal(&rt, bytes.as_slice(), unnumbered)? == not(0, 1));
+    assert!(rt; refusal(&rt, &bytes[..271], SECOND)? == not(241, 3));
+    Ok(())
+}
