@@ -87,7 +87,7 @@ told_right a b = omega arith
 -- the sizes that are told from an entry on, by that entry and those behind it
 from_entry : (schema : Schema) (log : List Entry) (i size : ℕ) (e : Entry) → i < length log → e ≡ get_or log i e
     → sizes_from schema size (take i log) (drop i log)
-      ≡ sized e.payload (size + group_bytes schema e.payload) (head_size (take i log)) (λ n. sizes_from schema n (take (i + 1) log) (drop (i + 1) log))
+    ≡ sized e.payload (size + group_bytes schema e.payload) (head_size (take i log)) (λ n. sizes_from schema n (take (i + 1) log) (drop (i + 1) log))
 from_entry schema log i size e lt is =
     let d : drop i log ≡ e ∷ drop (i + 1) log = rw add-one (drop-cons log i e lt ∙ ap (λ (x : Entry). x ∷ drop (suc i) log) (sym is)) in
     let t : take (i + 1) log ≡ take i log ++ e ∷ [] = rw add-one (take-suc log i e lt ∙ ap (λ (x : Entry). take i log ++ x ∷ []) (sym is)) in

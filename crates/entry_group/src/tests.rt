@@ -198,7 +198,11 @@ fn sizes_of_two_files(rt: HostRuntime) -> Result<(), Fail> {
     Ok(())
 }
 
-fn refusal(rt: &HostRuntime, bytes: &[u8], place: Place) -> Result<Option<EntryError>, Fail> {
+fn refusal(
+    rt: &(impl AllocGlobal + Abort),
+    bytes: &[u8],
+    place: Place,
+) -> Result<Option<EntryError>, Fail> {
     let ring = ring(rt, rt.alloc())?;
     Ok(read_entry(rt.alloc(), schema_of(&ring), bytes, place).err())
 }
