@@ -1,0 +1,13 @@
+ghost use Rattle.event_txn.specs.Laws.{WrittenIsRead, NoneBeginsAnother};
+
+/// What [`write_txn`](crate::write_txn) put is what [`read_txn`](crate::read_txn) gives, with the
+/// size of the events, whatever stands behind them.
+pub fn law_txn_again()
+    ensures { WrittenIsRead }
+{}
+
+/// No transaction's events begin another's at the same place: equal bytes are those of one
+/// transaction, and the same bytes stand behind.
+pub fn law_txn_front()
+    ensures { NoneBeginsAnother }
+{}
