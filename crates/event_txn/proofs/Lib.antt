@@ -15,3 +15,4 @@ pub mod SpelledBodies
 pub mod SpelledRows
 pub mod Tabled
 pub mod SpelledTxns
+pub mod GroupSizes

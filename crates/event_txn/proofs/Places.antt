@@ -21,6 +21,10 @@ is_there : {X : Type 0} (P : X → Bool) (o : Option X) → option_map_or P o fa
 is_there P (Some x) h e = cc
 is_there P None h e = cc
 
+there : {X : Type 0} (P : X → Bool) (o : Option X) (d : X) → option_map_or P o false ≡ true → o ≡ Some (unwrap_or o d)
+there P (Some x) d h = refl
+there P None d h = absurd cc
+
 abbrev has_name : List ℕ → Table → Bool
 has_name name t = bytes_eq t.name name
 
@@ -42,6 +46,7 @@ pub record HasPlace (schema : Schema) (c : Change) : Type 0 where
   pub within : place < length schema.tables
   pub fits : fits_table (table_at schema place) c ≡ true
   pub name : (table_at schema place).name ≡ table_name c
+  pub table : table_of schema (table_name c) ≡ Some (table_at schema place)
 
 pub has_place : (schema : Schema) (c : Change) → change_fits schema c ≡ true → HasPlace schema c
 has_place schema c h =
@@ -59,6 +64,7 @@ has_place schema c h =
       found = rw (lt-ltb k (length schema.tables) lt) refl;
       within = lt;
       fits = passes (λ (t : Table). fits_table t c) (slice_get schema.tables k) no_table at;
+      table = there (λ (t : Table). fits_table t c) (find (has_name (table_name c)) schema.tables) no_table h ∙ ap (λ (o : Option Table). Some (unwrap_or o no_table)) (find_at (has_name (table_name c)) schema.tables);
       name = (bytes_eq-Decides (table_at schema k).name (table_name c)).0 named;
     }
 

@@ -1,9 +1,11 @@
 -- What holds of every transaction's events: what was written is read, whatever stands behind it; so no transaction's events begin another's.
-use Rattle.std.specs.Prelude.{◌≡◌, ℕ, ◌^◌, ◌<◌, ◌≤◌, true, List, [], ◌∷◌, ◌++◌, length, Ok, FitsSigned}
+use Rattle.std.specs.Prelude.{◌≡◌, ℕ, ◌^◌, ◌<◌, ◌≤◌, ◌+◌, true, List, [], ◌∷◌, ◌++◌, length, Ok, FitsSigned}
 use Rattle.std.specs.Int.{w64}
 use Rattle.std.specs.Str.{is_utf8}
 use Rattle.ring_types.specs.Rings.{is_schema}
 use Rattle.ring_types.specs.Rows.{changes_fit, is_number}
+use Rattle.ring_types.specs.Sizes.{group_bytes}
+use Rattle.ring_types.specs.declared.entries.Payload.TheVariants as payload
 use Rattle.ring_types.specs.declared.values.Value.{Value}
 use Rattle.ring_types.specs.declared.values.Value.TheVariants as value
 use Rattle.ring_types.specs.declared.values.Change.{Change}
@@ -49,3 +51,9 @@ abbrev pub NoneBeginsAnother : Type 0
 NoneBeginsAnother =
     (schema : Schema) (a b : Txn) (position : ℕ) (place : Place) (x y : List ℕ) → IsTxn schema a → IsTxn schema b → 1 ≤ place.sequence
     → txn_events schema a position place ++ x ≡ txn_events schema b position place ++ y → (a ≡ b) × (x ≡ y)
+
+-- the opid event of a group has 42 bytes, and the events of its transaction the others
+abbrev pub EventsHaveSize : Type 0
+EventsHaveSize =
+    (schema : Schema) (txn : Txn) (position : ℕ) (place : Place) → is_schema schema ≡ true → changes_fit schema txn.changes ≡ true
+    → length (txn_events schema txn position place) + 42 ≡ group_bytes schema (payload.Txn txn)

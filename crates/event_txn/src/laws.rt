@@ -1,4 +1,4 @@
-ghost use Rattle.event_txn.specs.Laws.{WrittenIsRead, NoneBeginsAnother};
+ghost use Rattle.event_txn.specs.Laws.{WrittenIsRead, NoneBeginsAnother, EventsHaveSize};
 
 /// What [`write_txn`](crate::write_txn) put is what [`read_txn`](crate::read_txn) gives, with the
 /// size of the events, whatever stands behind them.
@@ -10,4 +10,9 @@ pub fn law_txn_again()
 /// transaction, and the same bytes stand behind.
 pub fn law_txn_front()
     ensures { NoneBeginsAnother }
+{}
+
+/// The events of a transaction take the bytes that its group has, but for the 42 of the opid event.
+pub fn law_txn_length()
+    ensures { EventsHaveSize }
 {}

@@ -25,7 +25,7 @@ mod tables;
 mod writing;
 
 pub use faults::TxnError;
-pub use laws::{law_txn_again, law_txn_front};
+pub use laws::{law_txn_again, law_txn_front, law_txn_length};
 pub use reading::{TxnRead, read_txn};
 pub use writing::write_txn;
 
