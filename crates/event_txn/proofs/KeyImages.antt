@@ -20,7 +20,7 @@ no_values : (columns : List Column) → values_text columns [] ≡ []
 no_values [] = refl
 no_values (c ∷ columns) = refl
 
-key_image : (c : Column) (columns : List Column) (key : Value) → key_fits_in (c ∷ columns) key ≡ true → image_text (c ∷ columns) (key ∷ []) ≡ 0 ∷ [] ++ value_text c.shape key
+pub key_image : (c : Column) (columns : List Column) (key : Value) → key_fits_in (c ∷ columns) key ≡ true → image_text (c ∷ columns) (key ∷ []) ≡ 0 ∷ [] ++ value_text c.shape key
 key_image c columns value.Null h = absurd (no_key (value_fits c.shape value.Null) h)
 key_image c columns (value.Int n) h = ap (λ (x : List ℕ). 0 ∷ value_text c.shape (value.Int n) ++ x) (no_values columns) ∙ ap (λ (x : List ℕ). 0 ∷ x) (append-nil (value_text c.shape (value.Int n)))
 key_image c columns (value.Text t) h = ap (λ (x : List ℕ). 0 ∷ value_text c.shape (value.Text t) ++ x) (no_values columns) ∙ ap (λ (x : List ℕ). 0 ∷ x) (append-nil (value_text c.shape (value.Text t)))

@@ -26,7 +26,7 @@ use Rattle.event_txn.specs.Tables.{table_at, table_number, bitmap, name_text, ty
 use Rattle.event_txn.proofs.KeyImages.{both, no_key, one_each, key_of_row}
 use Rattle.event_txn.specs.Rows.{lead_of, value_text, values_text, nulls_of, image_text, rows_text, all_present, key_present, rows_body}
 
-bitmap_length : (bits n : ℕ) → bits ≤ 64 → length (bitmap bits n) ≡ bitmap_size bits
+pub bitmap_length : (bits n : ℕ) → bits ≤ 64 → length (bitmap bits n) ≡ bitmap_size bits
 bitmap_length bits n few =
     let eight : length (to_le_bytes w64 n) ≡ 8 = refl in
     omega (arith, length-take (bitmap_size bits) (to_le_bytes w64 n), eight)
@@ -48,7 +48,7 @@ metadata_small : (s : Shape) → metadata_size s ≤ 2
 metadata_small shape.Int = omega arith
 metadata_small (shape.Text limit) = omega arith
 
-metadata_few : (columns : List Column) → sum_by (λ (c : Column). metadata_size c.shape) columns ≤ 2 * length columns
+pub metadata_few : (columns : List Column) → sum_by (λ (c : Column). metadata_size c.shape) columns ≤ 2 * length columns
 metadata_few [] = omega arith
 metadata_few (c ∷ columns) =
     let one : metadata_size c.shape ≤ 2 = metadata_small c.shape in

@@ -8,3 +8,11 @@ pub mod Lengths
 pub mod Puts
 pub mod Places
 pub mod Events
+pub mod Bitmaps
+pub mod OneEvent
+pub mod Lawful
+pub mod SpelledBodies
+pub mod SpelledRows
+pub mod Tabled
+pub mod SpelledTxns
+pub mod GroupSizes

@@ -21,17 +21,32 @@ is_there : {X : Type 0} (P : X → Bool) (o : Option X) → option_map_or P o fa
 is_there P (Some x) h e = cc
 is_there P None h e = cc
 
+there : {X : Type 0} (P : X → Bool) (o : Option X) (d : X) → option_map_or P o false ≡ true → o ≡ Some (unwrap_or o d)
+there P (Some x) d h = refl
+there P None d h = absurd cc
+
 abbrev has_name : List ℕ → Table → Bool
 has_name name t = bytes_eq t.name name
 
 abbrev first_place : Schema → Change → ℕ
 first_place schema c = position_or_len (has_name (table_name c)) schema.tables
 
+first_passes : {X : Type 0} (b : Bool) (test : X → Bool) (x : X) (o : Option X) (d : X) → test x ≡ b → (cond b (Some x) o ≡ None → ⊥) → ((o ≡ None → ⊥) → test (unwrap_or o d) ≡ true) → test (unwrap_or (cond b (Some x) o) d) ≡ true
+first_passes true test x o d e some rest = e
+first_passes false test x o d e some rest = rest some
+
+-- what is found passes
+found_passes : {X : Type 0} (test : X → Bool) (xs : List X) (d : X) → (find test xs ≡ None → ⊥) → test (unwrap_or (find test xs) d) ≡ true
+found_passes test [] d some = absurd (some refl)
+found_passes test (x ∷ xs) d some = first_passes (test x) test x (find test xs) d refl some (found_passes test xs d)
+
 pub record HasPlace (schema : Schema) (c : Change) : Type 0 where
   pub place : ℕ
   pub found : place_in schema (table_name c) ≡ Some place
   pub within : place < length schema.tables
   pub fits : fits_table (table_at schema place) c ≡ true
+  pub name : (table_at schema place).name ≡ table_name c
+  pub table : table_of schema (table_name c) ≡ Some (table_at schema place)
 
 pub has_place : (schema : Schema) (c : Change) → change_fits schema c ≡ true → HasPlace schema c
 has_place schema c h =
@@ -41,11 +56,16 @@ has_place schema c h =
       | inl within ↦ within
       | inr past ↦ absurd (is_there (λ (t : Table). fits_table t c) (slice_get schema.tables k) at (slice_get_past schema.tables k past))
     ] in
+    let some : find (has_name (table_name c)) schema.tables ≡ None → ⊥ = λ e. is_there (λ (t : Table). fits_table t c) (find (has_name (table_name c)) schema.tables) h e in
+    let named : has_name (table_name c) (table_at schema k) ≡ true =
+    ap (λ (o : Option Table). has_name (table_name c) (unwrap_or o no_table)) (sym (find_at (has_name (table_name c)) schema.tables)) ∙ found_passes (has_name (table_name c)) schema.tables no_table some in
     record {
       place = k;
       found = rw (lt-ltb k (length schema.tables) lt) refl;
       within = lt;
       fits = passes (λ (t : Table). fits_table t c) (slice_get schema.tables k) no_table at;
+      table = there (λ (t : Table). fits_table t c) (find (has_name (table_name c)) schema.tables) no_table h ∙ ap (λ (o : Option Table). Some (unwrap_or o no_table)) (find_at (has_name (table_name c)) schema.tables);
+      name = (bytes_eq-Decides (table_at schema k).name (table_name c)).0 named;
     }
 
 some_is : (o : Option ℕ) (a b : ℕ) → o ≡ Some a → o ≡ Some b → a ≡ b

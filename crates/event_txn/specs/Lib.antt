@@ -4,3 +4,4 @@ pub mod Rows
 pub mod Reading
 pub mod Txns
 pub mod Writing
+pub mod Laws

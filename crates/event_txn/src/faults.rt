@@ -29,7 +29,7 @@ pub enum RowError {
 
 /// Why no transaction's events stand there. `at` is the offset of the first event at fault, counted
 /// from the beginning of the bytes.
-#[derive(Debug, Drop, Error)]
+#[derive(Debug, PartialEq, Eq, Drop, Error)]
 pub enum TxnError {
     /// The event's type or flags are not those of an event that is due there.
     #[error("the event at {at} is not due")]

@@ -17,6 +17,7 @@ mod bodies;
 mod faults;
 mod fields;
 mod images;
+mod laws;
 mod putting;
 mod reading;
 mod rows;
@@ -24,5 +25,9 @@ mod tables;
 mod writing;
 
 pub use faults::TxnError;
+pub use laws::{law_txn_again, law_txn_front, law_txn_length};
 pub use reading::{TxnRead, read_txn};
 pub use writing::write_txn;
+
+#[cfg(test)]
+mod tests;

@@ -1,0 +1,368 @@
+ghost use Rattle.std.specs.Prelude.{◌≡◌, true};
+ghost use Rattle.ring_types.specs.Rings.{is_schema};
+
+use crate::faults::{BodyFault, fault_at};
+use crate::*;
+use event_frame::{FrameError, write_event};
+use ring_plain::changes_fit;
+use ring_types::{
+    Change, Column, Gtid, Kind, List, MemberPart, Memory, Place, Ring, RingParts, Schema, Shape,
+    Table, Text, Txn, Value,
+};
+use std::alloc::Global;
+use std::process::Abort;
+use std::test::Fail;
+
+const SERVER: u128 = 0x3e11fa47_71ca_11e1_9e33_c80aa9429562;
+
+/// Behind the first entry of the first file and the opid event of the second.
+const PLACE: Place = Place {
+    file: 1,
+    at: 241,
+    sequence: 1,
+};
+
+/// The server's first transaction, at position 2 of the log, if it inserts (7, 'a') into
+/// `t (id int, name text 20)` of the database `app`.
+const INSERTED: [u8; 230] = [
+    0, 0, 0, 0, 33, 1, 0, 0, 0, 65, 0, 0, 0, 50, 1, 0, //
+    0, 0, 0, 0, 62, 17, 0xfa, 71, 0x71, 0xca, 17, 0xe1, 0x9e, 51, 0xc8, 10, //
+    0xa9, 66, 0x95, 98, 1, 0, 0, 0, 0, 0, 0, 0, 2, 0, 0, 0, //
+    0, 0, 0, 0, 0, 1, 0, 0, 0, 0, 0, 0, 0, 18, 81, 0xd9, //
+    71, 0, 0, 0, 0, 2, 1, 0, 0, 0, 42, 0, 0, 0, 92, 1, //
+    0, 0, 0, 0, 0, 0, 0, 0, 0, 0, 0, 0, 0, 0, 0, 0, //
+    0, 0, 66, 69, 71, 73, 78, 0xc9, 98, 0x66, 0xa7, 0, 0, 0, 0, 19, //
+    1, 0, 0, 0, 46, 0, 0, 0, 0x8a, 1, 0, 0, 0, 0, 1, 0, //
+    0, 0, 0, 0, 1, 0, 3, 97, 0x70, 0x70, 0, 1, 0x74, 0, 2, 8, //
+    15, 2, 20, 0, 2, 0xd9, 94, 17, 0xcc, 0, 0, 0, 0, 30, 1, 0, //
+    0, 0, 46, 0, 0, 0, 0xb8, 1, 0, 0, 0, 0, 1, 0, 0, 0, //
+    0, 0, 1, 0, 2, 0, 2, 3, 0, 7, 0, 0, 0, 0, 0, 0, //
+    0, 1, 97, 19, 0x8c, 0x71, 63, 0, 0, 0, 0, 16, 1, 0, 0, 0, //
+    31, 0, 0, 0, 0xd7, 1, 0, 0, 0, 0, 2, 0, 0, 0, 0, 0, //
+    0, 0, 8, 24, 0xfa, 0x8a, //
+];
+
+/// The same, if it updates row 1 to (1, null).
+const UPDATED: [u8; 238] = [
+    0, 0, 0, 0, 33, 1, 0, 0, 0, 65, 0, 0, 0, 50, 1, 0, //
+    0, 0, 0, 0, 62, 17, 0xfa, 71, 0x71, 0xca, 17, 0xe1, 0x9e, 51, 0xc8, 10, //
+    0xa9, 66, 0x95, 98, 1, 0, 0, 0, 0, 0, 0, 0, 2, 0, 0, 0, //
+    0, 0, 0, 0, 0, 1, 0, 0, 0, 0, 0, 0, 0, 18, 81, 0xd9, //
+    71, 0, 0, 0, 0, 2, 1, 0, 0, 0, 42, 0, 0, 0, 92, 1, //
+    0, 0, 0, 0, 0, 0, 0, 0, 0, 0, 0, 0, 0, 0, 0, 0, //
+    0, 0, 66, 69, 71, 73, 78, 0xc9, 98, 0x66, 0xa7, 0, 0, 0, 0, 19, //
+    1, 0, 0, 0, 46, 0, 0, 0, 0x8a, 1, 0, 0, 0, 0, 1, 0, //
+    0, 0, 0, 0, 1, 0, 3, 97, 0x70, 0x70, 0, 1, 0x74, 0, 2, 8, //
+    15, 2, 20, 0, 2, 0xd9, 94, 17, 0xcc, 0, 0, 0, 0, 31, 1, 0, //
+    0, 0, 54, 0, 0, 0, 0xc0, 1, 0, 0, 0, 0, 1, 0, 0, 0, //
+    0, 0, 1, 0, 2, 0, 2, 1, 3, 0, 1, 0, 0, 0, 0, 0, //
+    0, 0, 2, 1, 0, 0, 0, 0, 0, 0, 0, 92, 0x7c, 27, 83, 0, //
+    0, 0, 0, 16, 1, 0, 0, 0, 31, 0, 0, 0, 0xdf, 1, 0, 0, //
+    0, 0, 2, 0, 0, 0, 0, 0, 0, 0, 62, 6, 0xa3, 0xb9, //
+];
+
+/// The same, if it deletes row 1.
+const DELETED: [u8; 228] = [
+    0, 0, 0, 0, 33, 1, 0, 0, 0, 65, 0, 0, 0, 50, 1, 0, //
+    0, 0, 0, 0, 62, 17, 0xfa, 71, 0x71, 0xca, 17, 0xe1, 0x9e, 51, 0xc8, 10, //
+    0xa9, 66, 0x95, 98, 1, 0, 0, 0, 0, 0, 0, 0, 2, 0, 0, 0, //
+    0, 0, 0, 0, 0, 1, 0, 0, 0, 0, 0, 0, 0, 18, 81, 0xd9, //
+    71, 0, 0, 0, 0, 2, 1, 0, 0, 0, 42, 0, 0, 0, 92, 1, //
+    0, 0, 0, 0, 0, 0, 0, 0, 0, 0, 0, 0, 0, 0, 0, 0, //
+    0, 0, 66, 69, 71, 73, 78, 0xc9, 98, 0x66, 0xa7, 0, 0, 0, 0, 19, //
+    1, 0, 0, 0, 46, 0, 0, 0, 0x8a, 1, 0, 0, 0, 0, 1, 0, //
+    0, 0, 0, 0, 1, 0, 3, 97, 0x70, 0x70, 0, 1, 0x74, 0, 2, 8, //
+    15, 2, 20, 0, 2, 0xd9, 94, 17, 0xcc, 0, 0, 0, 0, 32, 1, 0, //
+    0, 0, 44, 0, 0, 0, 0xb6, 1, 0, 0, 0, 0, 1, 0, 0, 0, //
+    0, 0, 1, 0, 2, 0, 2, 1, 0, 1, 0, 0, 0, 0, 0, 0, //
+    0, 0xb5, 0x78, 59, 0x6e, 0, 0, 0, 0, 16, 1, 0, 0, 0, 31, 0, //
+    0, 0, 0xd5, 1, 0, 0, 0, 0, 2, 0, 0, 0, 0, 0, 0, 0, //
+    0xa5, 0xdc, 0x94, 0x6b, //
+];
+
+fn inserted() -> &'static [u8] {
+    &INSERTED
+}
+
+fn updated() -> &'static [u8] {
+    &UPDATED
+}
+
+fn deleted() -> &'static [u8] {
+    &DELETED
+}
+
+fn column(alloc: Global, name: &str, shape: Shape) -> Result<Column, Memory> {
+    Ok(Column {
+        name: Text::copy_of(alloc, name)?,
+        shape,
+    })
+}
+
+fn table(alloc: Global) -> Result<Table, Memory> {
+    let mut columns = List::of_one(alloc, column(alloc, "id", Shape::Int)?)?;
+    columns.push(column(alloc, "name", Shape::Text { limit: 20 })?)?;
+    Ok(Table {
+        name: Text::copy_of(alloc, "t")?,
+        columns,
+    })
+}
+
+fn member(alloc: Global) -> Result<MemberPart, Memory> {
+    Ok(MemberPart {
+        id: 1,
+        region: Text::copy_of(alloc, "east")?,
+        kind: Kind::Full,
+        server: SERVER,
+        address: None,
+    })
+}
+
+/// A ring of one node.
+fn ring(rt: &impl Abort, alloc: Global) -> Result<Ring, Fail> {
+    let parts = RingParts {
+        home: Text::copy_of(alloc, "east")?,
+        regions: List::of_one(alloc, Text::copy_of(alloc, "east")?)?,
+        members: List::of_one(alloc, member(alloc)?)?,
+        clients: List::new(alloc),
+        schema: Schema {
+            database: Text::copy_of(alloc, "app")?,
+            tables: List::of_one(alloc, table(alloc)?)?,
+        },
+    };
+    assert!(rt; parts.is_in_range());
+    Ok(Ring::build(alloc, parts)?)
+}
+
+fn schema_of(ring: &Ring) -> &Schema
+    ensures { is_schema result.now ≡ true }
+{
+    ring.law_built();
+    ring.schema()
+}
+
+fn txn(alloc: Global, change: Change) -> Result<Txn, Memory> {
+    let gtid = Gtid {
+        server: SERVER,
+        number: 1,
+    };
+    Ok(Txn {
+        gtid,
+        changes: List::of_one(alloc, change)?,
+    })
+}
+
+fn row(alloc: Global, key: i64, name: Value) -> Result<List<Value>, Memory> {
+    let mut row = List::of_one(alloc, Value::Int(key))?;
+    row.push(name)?;
+    Ok(row)
+}
+
+fn insert(alloc: Global) -> Result<Change, Memory> {
+    Ok(Change::Insert {
+        table: Text::copy_of(alloc, "t")?,
+        row: row(alloc, 7, Value::Text(Text::copy_of(alloc, "a")?))?,
+    })
+}
+
+fn update(alloc: Global) -> Result<Change, Memory> {
+    Ok(Change::Update {
+        table: Text::copy_of(alloc, "t")?,
+        row: row(alloc, 1, Value::Null)?,
+    })
+}
+
+fn delete(alloc: Global) -> Result<Change, Memory> {
+    Ok(Change::Delete {
+        table: Text::copy_of(alloc, "t")?,
+        key: Value::Int(1),
+    })
+}
+
+fn written(rt: &impl Abort, alloc: Global, schema: &Schema, txn: &Txn) -> Result<Vec<u8>, Memory>
+    requires { is_schema schema.now ≡ true }
+{
+    let mut out = Vec::new(alloc);
+    assert!(rt; changes_fit(schema, txn.changes.as_slice()));
+    write_txn(&mut out, schema, txn, 2, PLACE)?;
+    Ok(out)
+}
+
+fn reads(
+    rt: &impl Abort,
+    alloc: Global,
+    schema: &Schema,
+    bytes: &[u8],
+    txn: &Txn,
+) -> Result<(), TxnError>
+    requires { is_schema schema.now ≡ true }
+{
+    let read = read_txn(alloc, schema, bytes, 2, PLACE)?;
+    assert_eq!(rt; read.size, bytes.len() as u64);
+    assert!(rt; read.txn == *txn);
+    Ok(())
+}
+
+/// Expects that the transaction of this change has these events, and no other.
+fn goes_both_ways(
+    rt: &impl Abort,
+    alloc: Global,
+    change: Change,
+    events: &[u8],
+) -> Result<(), Fail> {
+    let ring = ring(rt, alloc)?;
+    let txn = txn(alloc, change)?;
+    let out = written(rt, alloc, schema_of(&ring), &txn)?;
+    assert_eq!(rt; out.as_slice(), events);
+    reads(rt, alloc, schema_of(&ring), events, &txn)?;
+    Ok(())
+}
+
+#[test]
+fn each_change_both_ways(rt: HostRuntime) -> Result<(), Fail> {
+    goes_both_ways(&rt, rt.alloc(), insert(rt.alloc())?, inserted())?;
+    goes_both_ways(&rt, rt.alloc(), update(rt.alloc())?, updated())?;
+    goes_both_ways(&rt, rt.alloc(), delete(rt.alloc())?, deleted())
+}
+
+/// A change of one of the bodies: the event, where in its body, how many bytes go, which come in
+/// their place, and the fault that it makes.
+type Edit = (usize, usize, usize, &'static [u8], BodyFault);
+
+const EDITS: [Edit; 17] = [
+    (0, 41, 1, &[1], BodyFault::Field),
+    (1, 18, 1, b"n", BodyFault::Field),
+    (2, 0, 1, &[0], BodyFault::Table),
+    (2, 0, 1, &[2], BodyFault::Table),
+    (2, 9, 1, b"b", BodyFault::Table),
+    (2, 16, 1, &[252, 2, 0], BodyFault::Field),
+    (2, 16, 1, &[252, 251, 0], BodyFault::Table),
+    (2, 18, 1, &[8], BodyFault::Table),
+    (2, 20, 1, &[21], BodyFault::Table),
+    (2, 22, 1, &[3], BodyFault::Table),
+    (3, 0, 1, &[2], BodyFault::Table),
+    (3, 12, 1, &[1], BodyFault::Value),
+    (3, 21, 2, b"\x15aaaaaaaaaaaaaaaaaaaaa", BodyFault::Value),
+    (3, 22, 1, &[], BodyFault::Field),
+    (3, 22, 1, &[0xff], BodyFault::Value),
+    (3, 23, 0, &[0], BodyFault::Field),
+    (4, 0, 1, &[3], BodyFault::Field),
+];
+
+fn edits() -> &'static [Edit] {
+    &EDITS
+}
+
+/// The types of the events of [`INSERTED`], and where their bodies begin and end.
+const BODIES: [(u8, usize, usize); 5] = [
+    (33, 19, 61),
+    (2, 84, 103),
+    (19, 126, 149),
+    (30, 172, 195),
+    (16, 218, 226),
+];
+
+fn bodies() -> &'static [(u8, usize, usize)] {
+    &BODIES
+}
+
+/// Puts the body with these bytes in the place of others.
+fn edited(
+    alloc: Global,
+    body: &[u8],
+    at: usize,
+    gone: usize,
+    put: &[u8],
+) -> Result<Vec<u8>, Memory> {
+    let mut out = Vec::new(alloc);
+    out.extend_from_slice(body.get(..at).unwrap_or(&[]))?;
+    out.extend_from_slice(put)?;
+    out.extend_from_slice(body.get(at.wrapping_add(gone)..).unwrap_or(&[]))?;
+    Ok(out)
+}
+
+/// The events of [`INSERTED`] of which one has another type or body.
+fn with(
+    rt: &impl Abort,
+    alloc: Global,
+    event: usize,
+    kind: u8,
+    body: &[u8],
+) -> Result<Vec<u8>, Memory> {
+    let mut out = Vec::new(alloc);
+    for (index, (due, begin, end)) in bodies().iter().enumerate() {
+        let at = PLACE.at.wrapping_add(out.len() as u64);
+        if index == event {
+            assert!(rt; body.len() < 1000);
+            write_event(&mut out, kind, 0, body, at)?;
+        } else {
+            let body = inserted().get(*begin..*end).unwrap_or(&[]);
+            assert!(rt; body.len() < 1000);
+            write_event(&mut out, *due, 0, body, at)?;
+        }
+    }
+    Ok(out)
+}
+
+/// Expects this refusal of the bytes.
+fn refuses(
+    rt: &impl Abort,
+    alloc: Global,
+    bytes: &[u8],
+    place: Place,
+    wanted: TxnError,
+) -> Result<(), Fail> {
+    let ring = ring(rt, alloc)?;
+    let answer = read_txn(alloc, schema_of(&ring), bytes, 2, place).err();
+    assert_eq!(rt; answer, Some(wanted));
+    Ok(())
+}
+
+fn refuses_edit(rt: &impl Abort, alloc: Global, edit: &Edit) -> Result<(), Fail> {
+    let (event, at, gone, put, fault) = edit;
+    let (kind, begin, end) = bodies().get(*event).ok_or("no such event")?;
+    let old = inserted().get(*begin..*end).unwrap_or(&[]);
+    let body = edited(alloc, old, *at, *gone, put)?;
+    let bytes = with(rt, alloc, *event, *kind, body.as_slice())?;
+    let wanted = fault_at((*begin as u64).wrapping_sub(19), *fault);
+    refuses(rt, alloc, bytes.as_slice(), PLACE, wanted)
+}
+
+#[test]
+fn refuses_each_small_change(rt: HostRuntime) -> Result<(), Fail> {
+    for edit in edits() {
+        refuses_edit(&rt, rt.alloc(), edit)?;
+    }
+    Ok(())
+}
+
+fn refuses_other_type(rt: &impl Abort, alloc: Global, event: usize, at: u64) -> Result<(), Fail> {
+    let bytes = with(rt, alloc, event, 28, &[])?;
+    refuses(rt, alloc, bytes.as_slice(), PLACE, TxnError::Order { at })
+}
+
+#[test]
+fn refuses_what_is_not_due(rt: HostRuntime) -> Result<(), Fail> {
+    let alloc = rt.alloc();
+    refuses_other_type(&rt, alloc, 0, 0)?;
+    refuses_other_type(&rt, alloc, 1, 65)?;
+    refuses_other_type(&rt, alloc, 2, 107)?;
+    refuses_other_type(&rt, alloc, 3, 153)?;
+    refuses_other_type(&rt, alloc, 4, 199)?;
+    let place = Place {
+        file: 1,
+        at: 241,
+        sequence: 0,
+    };
+    refuses(&rt, alloc, inserted(), place, TxnError::Order { at: 0 })
+}
+
+#[test]
+fn refuses_a_cut_event(rt: HostRuntime) -> Result<(), Fail> {
+    let cut = inserted().get(..229).unwrap_or(&[]);
+    let wanted = TxnError::Frame {
+        at: 199,
+        fault: FrameError::Short,
+    };
+    refuses(&rt, rt.alloc(), cut, PLACE, wanted)
+}
