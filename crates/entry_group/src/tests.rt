@@ -256,7 +256,5 @@ fn a_transaction_without_a_number(rt: HostRuntime) -> Result<(), Fail> {
         sequence: 0,
     };
     assert!(rt; refusal(&rt, bytes.as_slice(), unnumbered)? == not(0, 1));
-    let cut = bytes.get(..271).ok_or("a shorter group")?;
-    assert!(rt; refusal(&rt, cut, SECOND)? == not(241, 3));
     Ok(())
 }
