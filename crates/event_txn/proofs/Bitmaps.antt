@@ -57,7 +57,7 @@ bits_fit bits n lt =
 even : (n : ℕ) → n % 2 ≡ 0 → (n % 2 == 0) ≡ true
 even n e = eq-eqb (n % 2) 0 e
 
-both_true : (a b : Bool) → a ≡ true → b ≡ true → (a && b) ≡ true
+pub both_true : (a b : Bool) → a ≡ true → b ≡ true → (a && b) ≡ true
 both_true a b h k = rw (h, k) refl
 
 pub nulls_is_field : (bits : ℕ) → bits ≤ 64 → IsField (nulls bits)

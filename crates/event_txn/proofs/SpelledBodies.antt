@@ -73,7 +73,7 @@ metadata_spelled (c ∷ columns) = (tt, metadata_of c.shape, metadata_text colum
 pub same : (n : ℕ) → (n == n) ≡ true
 same n = eq-eqb n n refl
 
-regrouped : (a b c d e f g h : List ℕ) → a ++ b ++ c ++ (d ++ e ++ f ++ g ++ h) ≡ a ++ (b ++ (c ++ (d ++ (e ++ (f ++ (g ++ h))))))
+pub regrouped : (a b c d e f g h : List ℕ) → a ++ b ++ c ++ (d ++ e ++ f ++ g ++ h) ≡ a ++ (b ++ (c ++ (d ++ (e ++ (f ++ (g ++ h))))))
 regrouped a b c d e f g h = simp append_assoc refl
 
 described_spelled : (schema : Schema) (t : Table) → length t.columns < 2 ^ 64 → all_metadata t < 2 ^ 64 → Spells (described schema t) (description schema t) tt

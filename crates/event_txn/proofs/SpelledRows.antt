@@ -88,7 +88,7 @@ write_spelled place t name row f fits =
     let image : List ℕ = image_text t.columns row in
     (tt, rows_text place t, all_present t ++ image, rows_spelled place t few, (tt, all_present t, image, (tt, refl), image_spelled t.columns row f.columns r.0 (negated (is_null (key_of row)) r.1) fits, refl), append_assoc (rows_text place t) (all_present t) image)
 
-five : (a b c d e : List ℕ) → a ++ b ++ c ++ d ++ e ≡ a ++ (b ++ (c ++ (d ++ e)))
+pub five : (a b c d e : List ℕ) → a ++ b ++ c ++ d ++ e ≡ a ++ (b ++ (c ++ (d ++ e)))
 five a b c d e = simp append_assoc refl
 
 update_spelled : (place : ℕ) (t : Table) (name : List ℕ) (row : List Value) → FitsRow t (Update name row) → FitsValues row → Spells (update_form place t) (rows_body place t (Update name row)) row

@@ -37,14 +37,14 @@ use Rattle.event_txn.proofs.SpelledRows.{row_due}
 event_spelled : {A : Type 0} (at offset kind : ℕ) (due : ℕ → ℕ → Due A) (body : List ℕ) (a : A) → IsDue (due kind 0) body a → size_of body < 2 ^ 32 → IsEvent at offset due (event kind 0 body (at + offset)) (a, offset + size_of body)
 event_spelled at offset kind due body a h small = (kind, 0, body, h, refl, refl, omega arith, small)
 
-abbrev ending : Schema → ℕ → List Change → List Typed
+abbrev pub ending : Schema → ℕ → List Change → List Typed
 ending schema position changes = changes_bodies schema changes ++ (16, xid_body position) ∷ []
 
 -- the row of a change, and all that stands behind it
-abbrev from_row : Schema → ℕ → Change → ℕ → List Change → List Typed
+abbrev pub from_row : Schema → ℕ → Change → ℕ → List Change → List Typed
 from_row schema position c place changes = (kind_of c, rows_body place (table_at schema place) c) ∷ ending schema position changes
 
-moved : (at offset size : ℕ) (es : List Typed) → events_from (at + offset + size) es ≡ events_from (at + (offset + size)) es
+pub moved : (at offset size : ℕ) (es : List Typed) → events_from (at + offset + size) es ≡ events_from (at + (offset + size)) es
 moved at offset size es = let e : at + offset + size ≡ at + (offset + size) = omega arith in ap (λ (n : ℕ). events_from n es) e
 
 -- each change, with the table that it names
@@ -109,7 +109,7 @@ gtid_due schema txn sequence is some tables =
 abbrev made : Gtid → Change → List Change → Txn
 made g c changes = record { gtid = g; changes = c ∷ changes }
 
-start : (at : ℕ) (es : List Typed) → events_from at es ≡ events_from (at + 0) es
+pub start : (at : ℕ) (es : List Typed) → events_from at es ≡ events_from (at + 0) es
 start at es = let e : at ≡ at + 0 = omega arith in ap (λ (n : ℕ). events_from n es) e
 
 txn_spelled : (count : ℕ) (schema : Schema) (g : Gtid) (c : Change) (changes : List Change) (position : ℕ) (place : Place) (t : Tabled schema c) → IsTxn schema (made g c changes) → 1 ≤ place.sequence → 1 ≤ length schema.tables
