@@ -1,6 +1,6 @@
 -- What a body's form spells is the text of its value, and the value is one that fits: field by field, each field has one spelling.
-use Rattle.std.proofs.Common.{◌≡◌, ℕ, zero, suc, ◌+◌, ◌*◌, ◌/◌, ◌%◌, ◌^◌, ◌<◌, ◌≤◌, Bool, true, false, cond, List, [], ◌∷◌, ◌++◌, length, refl, sym, ap, ap₂, subst, ◌∙◌, append_assoc, arith, inl, inr}
-use Rattle.std.specs.Prelude.{◌&&◌, ◌==◌, not, nat_lt, nat_le, bytes_eq}
+use Rattle.std.proofs.Common.{◌≡◌, ℕ, suc, ◌+◌, ◌*◌, ◌/◌, ◌%◌, ◌^◌, ◌<◌, ◌≤◌, Bool, true, false, List, [], ◌∷◌, ◌++◌, length, refl, sym, ap, ap₂, subst, ◌∙◌, arith, inl, inr}
+use Rattle.std.specs.Prelude.{◌==◌, not, nat_le}
 use Rattle.std.specs.Int.{w64, to_le_bytes, cast_signed, cast_unsigned}
 use Rattle.std.specs.Str.{is_utf8}
 use Rattle.std.proofs.lemmas.Bool.{eqb-true, eqb-false, cases_lt}
@@ -9,7 +9,7 @@ use Rattle.std.proofs.lemmas.Int.{of_z-to_z}
 use Rattle.std.proofs.lemmas.List.{append-nil}
 use Rattle.std.proofs.lemmas.Slice.Eq.{bytes_eq-Decides}
 use Rattle.event_frame.specs.Forms.{Spells}
-use Rattle.event_frame.specs.Fields.{packed_text, text_fits}
+use Rattle.event_frame.specs.Fields.{packed_text}
 use Rattle.ring_types.specs.Rows.{is_number, is_null, key_of, same_value, value_fits, values_fit, key_fits_in}
 use Rattle.ring_types.specs.Sizes.{all_metadata}
 use Rattle.ring_types.specs.declared.values.Gtid.{Gtid}
@@ -21,8 +21,8 @@ use Rattle.ring_types.specs.declared.schemas.Column.{Column}
 use Rattle.ring_types.specs.declared.schemas.Table.{Table}
 use Rattle.ring_types.specs.declared.schemas.Schema.{Schema}
 use Rattle.event_txn.specs.Bodies.{gtid_form, gtid_body, begin_form, begin_body}
-use Rattle.event_txn.specs.Tables.{table_at, table_number, bitmap, name_form, name_text, types_form, types_text, metadata_form, metadata_text, nullable, described, description, map_form, map_body}
-use Rattle.event_txn.specs.Rows.{value_text, cell_form, values_form, values_with, values_text, null_bit, nulls_of, image_form, image_with, image_text, key_form, rows_form, rows_text}
+use Rattle.event_txn.specs.Tables.{table_at, bitmap, name_form, name_text, types_form, types_text, metadata_form, metadata_text, nullable, described, description, map_form, map_body}
+use Rattle.event_txn.specs.Rows.{value_text, cell_form, values_form, values_text, null_bit, nulls_of, image_form, image_with, image_text, key_form, rows_form, rows_text}
 use Rattle.event_txn.specs.Laws.{FitsValue, FitsValues}
 use Rattle.event_txn.proofs.KeyImages.{both, key_image, one_each}
 use Rattle.event_txn.proofs.Bitmaps.{both_true}

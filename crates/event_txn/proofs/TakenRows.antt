@@ -1,5 +1,5 @@
 -- What is due behind the description of a table is the body of a change that fits it.
-use Rattle.std.proofs.Common.{◌≡◌, ℕ, ◌≤◌, Bool, true, false, List, [], ◌∷◌, ◌++◌, length, refl, sym, ap, ap₂, subst, ◌∙◌, append_assoc, arith, inl, inr, ◌⊎◌}
+use Rattle.std.proofs.Common.{◌≡◌, ℕ, ◌≤◌, Bool, true, false, List, [], ◌∷◌, ◌++◌, length, refl, sym, ap, ap₂, subst, ◌∙◌, append_assoc, inl, inr, ◌⊎◌}
 use Rattle.std.specs.Prelude.{◌&&◌, ◌==◌, not}
 use Rattle.std.proofs.lemmas.Bool.{eqb-true}
 use Rattle.event_frame.specs.Forms.{Spells}
@@ -16,7 +16,7 @@ use Rattle.event_txn.specs.Laws.{FitsChange}
 use Rattle.event_txn.proofs.KeyImages.{both}
 use Rattle.event_txn.proofs.Bitmaps.{both_true}
 use Rattle.event_txn.proofs.SpelledRows.{five}
-use Rattle.event_txn.proofs.TakenBodies.{ImageIs, KeyIs, RepeatIs, image_is, key_is, image_with_is, rows_is}
+use Rattle.event_txn.proofs.TakenBodies.{image_is, key_is, image_with_is, rows_is}
 
 -- the body of a change that fits this table and names it
 pub record RowOf (place : ℕ) (t : Table) (body : List ℕ) (c : Change) : Type 0 where

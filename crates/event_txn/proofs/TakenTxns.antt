@@ -1,20 +1,15 @@
 -- What is read is the events of a transaction that fits: each event is the only spelling of what is due there.
-use Rattle.std.proofs.Common.{◌≡◌, ℕ, zero, suc, ◌+◌, ◌%◌, ◌^◌, ◌<◌, ◌≤◌, Bool, true, false, cond, List, [], ◌∷◌, ◌++◌, length, Option, Some, None, Result, Ok, Err, refl, sym, ap, ap₂, subst, ◌∙◌, append_assoc, zero-add, arith, inl, inr, ◌⊎◌}
-use Rattle.std.specs.Prelude.{◌&&◌, ◌||◌, ◌==◌, not, nat_le, nat_lt, map, bytes_eq, slice_get, unwrap_or}
-use Rattle.std.specs.List.{list_all, list_any, position_or_len}
+use Rattle.std.proofs.Common.{◌≡◌, ℕ, zero, suc, ◌+◌, ◌^◌, ◌<◌, ◌≤◌, true, false, List, [], ◌∷◌, ◌++◌, length, Option, Some, None, Result, Ok, Err, refl, sym, ap, ap₂, subst, ◌∙◌, zero-add, arith, inl, inr, ◌⊎◌}
+use Rattle.std.specs.Prelude.{◌&&◌, ◌==◌, nat_le}
+use Rattle.std.specs.List.{list_all}
 use Rattle.std.specs.Option.{option_map_or}
-use Rattle.std.proofs.lemmas.Bool.{leb-true, le-leb, lt-ltb}
+use Rattle.std.proofs.lemmas.Bool.{leb-true, le-leb}
 use Rattle.std.proofs.lemmas.List.{append-nil}
-use Rattle.std.proofs.lemmas.List.Folds.{find_at}
-use Rattle.std.proofs.lemmas.Slice.Eq.{bytes_eq-Decides}
 use Rattle.event_frame.specs.Forms.{Spells, front_of}
 use Rattle.event_frame.specs.Events.{event, size_of}
-use Rattle.event_frame.specs.Laws.{IsBytes}
 use Rattle.event_frame.proofs.Forms.{read_is_spelled}
-use Rattle.ring_types.specs.Names.{has_text_twice}
-use Rattle.ring_types.specs.Rings.{is_schema, schema_fits, bad_schema, bad_table}
+use Rattle.ring_types.specs.Rings.{is_schema}
 use Rattle.ring_types.specs.Rows.{change_fits, is_number, place_in, table_name, table_of, fits_table}
-use Rattle.ring_types.specs.declared.limits.TheConstants.{MOST_TABLES}
 use Rattle.ring_types.specs.declared.values.Gtid.{Gtid}
 use Rattle.ring_types.specs.declared.values.Change.{Change}
 use Rattle.ring_types.specs.declared.values.Txn.{Txn}
@@ -25,19 +20,19 @@ use Rattle.event_txn.specs.declared.faults.TxnError.{TxnError}
 use Rattle.event_txn.specs.declared.faults.TxnError.TheVariants as error
 use Rattle.event_txn.specs.declared.reading.TxnRead.{TxnRead}
 use Rattle.event_txn.specs.Bodies.{gtid_form, gtid_body, begin_form, begin_body, xid_form, xid_body}
-use Rattle.event_txn.specs.Tables.{table_at, no_table, map_form, map_body}
+use Rattle.event_txn.specs.Tables.{table_at, map_form, map_body}
 use Rattle.event_txn.specs.Rows.{kind_of, rows_body}
 use Rattle.event_txn.specs.Txns.{Due, Nothing, Bodies, due_if, Typed, IsEvent, due_gtid, due_begin, due_table, due_rows, due_more, changes_behind, changes_form, txn_form, changes_bodies, txn_bodies, events_from, behind, txn_events, txn_at, value_of}
-use Rattle.event_txn.specs.Laws.{FitsChange, FitsChanges, IsTxn, IsTxnAtFront, ReadIsAtFront}
+use Rattle.event_txn.specs.Laws.{FitsChange, FitsChanges, IsTxn, ReadIsAtFront}
 use Rattle.event_txn.proofs.KeyImages.{both}
 use Rattle.event_txn.proofs.Bitmaps.{both_true}
-use Rattle.event_txn.proofs.Lawful.{either, negated, txn_fields}
+use Rattle.event_txn.proofs.Lawful.{txn_fields}
 use Rattle.event_txn.proofs.Events.{bodies_at}
 use Rattle.event_txn.proofs.TableNames.{is_named}
 use Rattle.event_txn.proofs.Tabled.{schema_facts}
 use Rattle.event_txn.proofs.SpelledTxns.{ending, from_row, moved, start, behind_length}
-use Rattle.event_txn.proofs.TakenBodies.{GtidIs, gtid_is, begin_is, MapIs, map_is}
-use Rattle.event_txn.proofs.TakenRows.{due_of, typed, RowOf, RowTaken, row_taken}
+use Rattle.event_txn.proofs.TakenBodies.{gtid_is, begin_is, map_is}
+use Rattle.event_txn.proofs.TakenRows.{due_of, typed, row_taken}
 
 -- ---- events
 

@@ -1,9 +1,9 @@
 //! Writing a transaction: its events in order, each body put in place behind its header.
-ghost use Rattle.std.specs.Prelude.{◌≡◌, ◌≤◌, ◌<◌, ◌+◌, ◌%◌, ◌^◌, ◌++◌, ◌∷◌, [], true, length, OnOk, OnErr, IfOk, Some};
+ghost use Rattle.std.specs.Prelude.{◌≡◌, ◌≤◌, ◌<◌, ◌+◌, ◌%◌, ◌^◌, ◌++◌, true, length, OnOk, OnErr, IfOk, Some};
 ghost use Rattle.std.specs.List.{list_all};
 ghost use Rattle.event_frame.specs.Events.{event, size_of};
 ghost use Rattle.ring_types.specs.Rings.{is_schema, column_fits};
-ghost use Rattle.ring_types.specs.Rows.{changes_fit, change_fits, fits_table, is_number, place_in, table_name};
+ghost use Rattle.ring_types.specs.Rows.{changes_fit, change_fits, fits_table, place_in, table_name};
 ghost use Rattle.event_txn.specs.Bodies.{gtid_body, begin_body, xid_body};
 ghost use Rattle.event_txn.specs.Tables.{map_body, table_at};
 ghost use Rattle.event_txn.specs.Rows.{kind_of, rows_body};
