@@ -1,5 +1,5 @@
 -- The two fields of a change's bodies that are neither texts nor numbers of a width: the number of a table, and the bits of the Nulls. Each is found exactly where it is spelled.
-use Rattle.std.proofs.Common.{◌≡◌, ℕ, zero, suc, ◌+◌, ◌-◌, ◌*◌, ◌/◌, ◌%◌, ◌^◌, ◌<◌, ◌≤◌, Bool, true, false, List, [], ◌∷◌, ◌++◌, length, get_or, take, drop, refl, sym, ap, ap₂, ◌∙◌, arith, inl, inr}
+use Rattle.std.proofs.Common.{◌≡◌, ℕ, zero, suc, ◌+◌, ◌-◌, ◌*◌, ◌%◌, ◌^◌, ◌<◌, ◌≤◌, Bool, true, List, [], ◌∷◌, ◌++◌, length, take, drop, refl, sym, ap, ap₂, ◌∙◌, arith, inl, inr}
 use Rattle.std.specs.Prelude.{◌==◌, ◌&&◌, nat_lt, nat_le, bytes_eq, replicate}
 use Rattle.std.specs.Int.{w32, w64, to_le_bytes, from_le_bytes}
 use Rattle.std.proofs.Math.Nat.{pow-le-pow_right}
@@ -57,7 +57,7 @@ bits_fit bits n lt =
 even : (n : ℕ) → n % 2 ≡ 0 → (n % 2 == 0) ≡ true
 even n e = eq-eqb (n % 2) 0 e
 
-both_true : (a b : Bool) → a ≡ true → b ≡ true → (a && b) ≡ true
+pub both_true : (a b : Bool) → a ≡ true → b ≡ true → (a && b) ≡ true
 both_true a b h k = rw (h, k) refl
 
 pub nulls_is_field : (bits : ℕ) → bits ≤ 64 → IsField (nulls bits)

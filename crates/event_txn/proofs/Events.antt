@@ -10,7 +10,7 @@ use Rattle.ring_types.specs.declared.schemas.Schema.{Schema}
 use Rattle.event_txn.specs.Bodies.{gtid_body, begin_body, xid_body}
 use Rattle.event_txn.specs.Tables.{map_body, table_at}
 use Rattle.event_txn.specs.Rows.{kind_of, rows_body}
-use Rattle.event_txn.specs.Txns.{Typed, change_bodies, changes_bodies, events_from, behind, txn_bodies, txn_events}
+use Rattle.event_txn.specs.Txns.{Typed, change_bodies, changes_bodies, events_from, behind, txn_events}
 use Rattle.event_txn.proofs.Lengths.{gtid_length}
 
 pub event_wrapped : (kind n : ℕ) (body : List ℕ) → event kind 0 body (n % 2 ^ 64) ≡ event kind 0 body n

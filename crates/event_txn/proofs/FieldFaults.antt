@@ -1,5 +1,5 @@
 -- A field that a reader finds or misses is found or missed alike by a form, whichever faults the two name: what is found does not depend on them.
-use Rattle.std.proofs.Common.{◌≡◌, ℕ, List, Result, Ok, Err, refl}
+use Rattle.std.proofs.Common.{◌≡◌, ℕ, List, Ok, Err, refl}
 use Rattle.event_frame.specs.Forms.{Found, Part, Cut, Wrong, found}
 use Rattle.event_frame.specs.declared.field_readers.FieldFault.{FieldFault}
 use Rattle.event_frame.specs.declared.field_readers.FieldFault.TheVariants as field

@@ -1,17 +1,14 @@
 -- The events of a transaction have the size that is told of its group, but for the opid event: each change has the sizes of its two events.
-use Rattle.std.proofs.Common.{◌≡◌, ℕ, ◌+◌, ◌≤◌, Bool, true, false, List, [], ◌∷◌, ◌++◌, length, Some, refl, sym, ap, ◌∙◌, zero-add, arith}
-use Rattle.std.specs.Prelude.{◌&&◌, nat_le, sum_by}
+use Rattle.std.proofs.Common.{◌≡◌, ℕ, ◌+◌, true, List, [], ◌∷◌, length, ap, arith}
+use Rattle.std.specs.Prelude.{nat_le}
 use Rattle.std.specs.List.{list_all}
 use Rattle.std.specs.Option.{option_map_or}
 use Rattle.std.proofs.lemmas.List.Sums.{sum_by-cons}
 use Rattle.event_frame.specs.Events.{size_of}
 use Rattle.ring_types.specs.Rings.{is_schema}
-use Rattle.ring_types.specs.Rows.{change_fits, table_name, table_of}
-use Rattle.ring_types.specs.Sizes.{table_map_size, rows_event_size, change_size, changes_size, group_bytes}
+use Rattle.ring_types.specs.Rows.{change_fits}
+use Rattle.ring_types.specs.Sizes.{table_map_size, rows_event_size, change_size, changes_size}
 use Rattle.ring_types.specs.declared.values.Change.{Change}
-use Rattle.ring_types.specs.declared.values.Txn.{Txn}
-use Rattle.ring_types.specs.declared.entries.Payload.TheVariants as payload
-use Rattle.ring_types.specs.declared.entries.Place.{Place}
 use Rattle.ring_types.specs.declared.schemas.Table.{Table}
 use Rattle.ring_types.specs.declared.schemas.Schema.{Schema}
 use Rattle.event_txn.specs.Bodies.{gtid_body, xid_body}

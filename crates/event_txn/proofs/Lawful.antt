@@ -1,12 +1,12 @@
 -- Each form is made of fields that are found exactly where they are spelled: by going through it, field by field.
-use Rattle.std.proofs.Common.{◌≡◌, ℕ, zero, suc, ◌≤◌, ◌<◌, Bool, true, false, cond, List, [], ◌∷◌, ◌++◌, length, Some, None, Option, refl, arith}
+use Rattle.std.proofs.Common.{◌≡◌, ℕ, zero, suc, ◌≤◌, Bool, true, false, cond, List, [], ◌∷◌, length, Some, None, Option, refl, arith}
 use Rattle.std.specs.Prelude.{◌&&◌, ◌||◌, ◌==◌, not, nat_lt, nat_le, slice_get, unwrap_or}
 use Rattle.std.specs.List.{list_any}
-use Rattle.std.specs.Int.{w8, w16, w64, to_le_bytes}
+use Rattle.std.specs.Int.{w8, w16, w64}
 use Rattle.std.proofs.lemmas.Bool.{ltb-false}
 use Rattle.event_frame.specs.Forms.{Form}
 use Rattle.event_frame.specs.Fields.{text_fits}
-use Rattle.event_frame.proofs.Forms.{IsPart, AreFields}
+use Rattle.event_frame.proofs.Forms.{AreFields}
 use Rattle.event_frame.proofs.Fields.{IsWide, wide8, wide16, wide64, constant_is_field, number_is_field, text_is_field, agrees_is_field, packed_is_field}
 use Rattle.event_frame.proofs.Servers.{server_is_field}
 use Rattle.ring_types.specs.Rings.{is_schema, schema_fits, bad_table, bad_schema}

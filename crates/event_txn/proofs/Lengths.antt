@@ -1,15 +1,14 @@
 -- The bodies of a change's events have the sizes that the size of a group counts: each part has its own.
-use Rattle.std.proofs.Common.{◌≡◌, ℕ, suc, ◌+◌, ◌-◌, ◌*◌, ◌/◌, ◌^◌, ◌<◌, ◌≤◌, Bool, true, false, cond, List, [], ◌∷◌, ◌++◌, length, refl, sym, ap, ◌∙◌, arith}
-use Rattle.std.specs.Prelude.{◌&&◌, not, nat_le, nat_lt, sum_by}
+use Rattle.std.proofs.Common.{◌≡◌, ℕ, suc, ◌+◌, ◌-◌, ◌*◌, ◌^◌, ◌<◌, ◌≤◌, Bool, true, false, cond, List, [], ◌∷◌, ◌++◌, length, refl, ap, arith}
+use Rattle.std.specs.Prelude.{not, nat_le, nat_lt, sum_by}
 use Rattle.std.specs.List.{list_all}
-use Rattle.std.specs.Int.{w8, w16, w32, w64, to_le_bytes}
-use Rattle.std.proofs.lemmas.Bool.{leb-true}
+use Rattle.std.specs.Int.{w8, w16, w64, to_le_bytes}
 use Rattle.std.proofs.lemmas.Bool.Decides.{nat_tests}
 use Rattle.std.proofs.lemmas.List.{length-append, length-take}
 use Rattle.std.proofs.lemmas.List.Sums.{sum_by-cons}
 use Rattle.event_frame.specs.Fields.{packed_text}
 use Rattle.ring_types.specs.Rings.{column_fits, shape_fits}
-use Rattle.ring_types.specs.Rows.{is_null, key_of, value_fits, values_fit, row_fits, key_fits, key_fits_in, fits_table}
+use Rattle.ring_types.specs.Rows.{is_null, key_of, value_fits, values_fit, key_fits_in, fits_table}
 use Rattle.ring_types.specs.Sizes.{packed_size, bitmap_size, metadata_size, all_metadata, table_map_size, value_size, values_size, image_size, rows_event_size}
 use Rattle.ring_types.specs.declared.values.Value.{Value}
 use Rattle.ring_types.specs.declared.values.Value.TheVariants as value

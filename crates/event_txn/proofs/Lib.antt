@@ -16,3 +16,7 @@ pub mod SpelledRows
 pub mod Tabled
 pub mod SpelledTxns
 pub mod GroupSizes
+pub mod TableNames
+pub mod TakenBodies
+pub mod TakenRows
+pub mod TakenTxns

@@ -1,6 +1,6 @@
 -- The table that a change names is found at a place: the first table that passes a test is the one at the first place that does.
 use Rattle.std.proofs.Common.{◌≡◌, ℕ, ◌<◌, Bool, true, false, cond, List, [], ◌∷◌, length, Option, Some, None, refl, sym, ap, ◌∙◌, inl, inr}
-use Rattle.std.specs.Prelude.{find, slice_get, unwrap_or, bytes_eq, nat_lt}
+use Rattle.std.specs.Prelude.{find, slice_get, unwrap_or, bytes_eq}
 use Rattle.std.specs.List.{position_or_len}
 use Rattle.std.specs.Option.{option_map_or}
 use Rattle.std.proofs.lemmas.Bool.{cases_lt, lt-ltb}

@@ -1,32 +1,30 @@
 -- The text of each body is spelled by its form: field by field, each with its own text.
-use Rattle.std.proofs.Common.{◌≡◌, ℕ, ◌+◌, ◌*◌, ◌/◌, ◌%◌, ◌^◌, ◌<◌, ◌≤◌, Bool, true, false, cond, List, [], ◌∷◌, ◌++◌, length, refl, sym, ap, subst, ◌∙◌, append_assoc, arith}
-use Rattle.std.specs.Prelude.{◌&&◌, ◌==◌, not, nat_lt, nat_le, ℤ, FitsSigned}
+use Rattle.std.proofs.Common.{◌≡◌, ℕ, ◌+◌, ◌*◌, ◌/◌, ◌%◌, ◌^◌, ◌<◌, ◌≤◌, Bool, true, false, cond, List, [], ◌∷◌, ◌++◌, length, refl, sym, ap, subst, append_assoc, arith}
+use Rattle.std.specs.Prelude.{◌&&◌, ◌==◌, nat_lt, nat_le, ℤ, FitsSigned}
 use Rattle.std.specs.List.{list_all}
 use Rattle.std.specs.Int.{w8, w16, w64, byte_len, to_le_bytes, to_be_bytes, w128, cast_unsigned}
 use Rattle.std.specs.Str.{is_utf8}
-use Rattle.std.proofs.lemmas.Bool.{eq-eqb, leb-true, ltb-true, lt-ltb}
+use Rattle.std.proofs.lemmas.Bool.{eq-eqb, leb-true, ltb-true}
 use Rattle.std.proofs.lemmas.Int.{to_z-of_z}
 use Rattle.std.proofs.lemmas.List.{append-nil}
 use Rattle.event_frame.specs.Forms.{Spells}
 use Rattle.event_frame.specs.Fields.{packed_text}
 use Rattle.ring_types.specs.Rings.{column_fits, shape_fits}
-use Rattle.ring_types.specs.Rows.{is_number, is_null, key_of, same_value, value_fits, values_fit, key_fits_in}
+use Rattle.ring_types.specs.Rows.{is_number, is_null, value_fits, values_fit}
 use Rattle.ring_types.specs.Sizes.{all_metadata}
 use Rattle.ring_types.specs.declared.values.Gtid.{Gtid}
 use Rattle.ring_types.specs.declared.values.Value.{Value}
 use Rattle.ring_types.specs.declared.values.Value.TheVariants as value
-use Rattle.ring_types.specs.declared.values.Change.{Change}
-use Rattle.ring_types.specs.declared.values.Change.TheVariants.{Insert, Update, Delete}
 use Rattle.ring_types.specs.declared.schemas.Shape.{Shape}
 use Rattle.ring_types.specs.declared.schemas.Shape.TheVariants as shape
 use Rattle.ring_types.specs.declared.schemas.Column.{Column}
 use Rattle.ring_types.specs.declared.schemas.Table.{Table}
 use Rattle.ring_types.specs.declared.schemas.Schema.{Schema}
 use Rattle.event_txn.specs.Bodies.{gtid_form, gtid_body, begin_form, begin_body}
-use Rattle.event_txn.specs.Tables.{table_at, table_number, bitmap, all_ones, name_form, name_text, type_of, types_form, types_text, metadata_of, metadata_form, metadata_text, nullable, columns_text, described, description, map_form, map_body}
-use Rattle.event_txn.specs.Rows.{lead_of, value_form, value_text, cell_form, values_form, values_with, values_text, null_bit, nulls_of, image_form, image_with, image_text, key_form, rows_form, rows_text, all_present, key_present, write_form, update_form, delete_form, rows_body}
+use Rattle.event_txn.specs.Tables.{table_at, table_number, name_form, name_text, type_of, types_form, types_text, metadata_of, metadata_form, metadata_text, nullable, described, description, map_form, map_body}
+use Rattle.event_txn.specs.Rows.{lead_of, value_text, cell_form, values_form, values_text, null_bit, nulls_of}
 use Rattle.event_txn.specs.Laws.{FitsValue, FitsValues}
-use Rattle.event_txn.proofs.KeyImages.{both, key_image, one_each, key_of_row}
+use Rattle.event_txn.proofs.KeyImages.{both}
 use mir.ValLaws as laws
 
 pub gtid_spelled : (sequence : ℕ) (g : Gtid) → g.server < 2 ^ 128 → g.number < 2 ^ 64 → is_number g.number ≡ true → Spells (gtid_form sequence) (gtid_body sequence g) g
@@ -73,7 +71,7 @@ metadata_spelled (c ∷ columns) = (tt, metadata_of c.shape, metadata_text colum
 pub same : (n : ℕ) → (n == n) ≡ true
 same n = eq-eqb n n refl
 
-regrouped : (a b c d e f g h : List ℕ) → a ++ b ++ c ++ (d ++ e ++ f ++ g ++ h) ≡ a ++ (b ++ (c ++ (d ++ (e ++ (f ++ (g ++ h))))))
+pub regrouped : (a b c d e f g h : List ℕ) → a ++ b ++ c ++ (d ++ e ++ f ++ g ++ h) ≡ a ++ (b ++ (c ++ (d ++ (e ++ (f ++ (g ++ h))))))
 regrouped a b c d e f g h = simp append_assoc refl
 
 described_spelled : (schema : Schema) (t : Table) → length t.columns < 2 ^ 64 → all_metadata t < 2 ^ 64 → Spells (described schema t) (description schema t) tt

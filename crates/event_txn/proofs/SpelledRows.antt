@@ -1,14 +1,13 @@
 -- The body of a row's event is spelled by the form of its change, and so by what is due behind the description of its table.
-use Rattle.std.proofs.Common.{◌≡◌, ℕ, suc, ◌+◌, ◌*◌, ◌%◌, ◌^◌, ◌<◌, ◌≤◌, Bool, true, false, List, [], ◌∷◌, ◌++◌, length, refl, sym, ap, subst, ◌∙◌, append_assoc, rules, arith}
-use Rattle.std.specs.Prelude.{◌&&◌, ◌==◌, not, bytes_eq}
+use Rattle.std.proofs.Common.{◌≡◌, ℕ, suc, ◌+◌, ◌*◌, ◌%◌, ◌^◌, ◌<◌, Bool, true, false, List, [], ◌∷◌, ◌++◌, length, refl, sym, ap, subst, append_assoc, rules, arith}
+use Rattle.std.specs.Prelude.{not}
 use Rattle.std.specs.List.{list_all}
-use Rattle.std.proofs.lemmas.Bool.{eq-eqb}
 use Rattle.std.proofs.lemmas.List.{append-nil}
 use Rattle.std.proofs.lemmas.Slice.Eq.{bytes_eq-Decides}
 use Rattle.event_frame.specs.Forms.{Spells}
 use Rattle.event_frame.specs.Fields.{packed_text}
 use Rattle.ring_types.specs.Rings.{column_fits, shape_fits}
-use Rattle.ring_types.specs.Rows.{is_null, key_of, same_value, value_fits, values_fit, key_fits_in, fits_table, table_name}
+use Rattle.ring_types.specs.Rows.{is_null, key_of, same_value, value_fits, values_fit, key_fits_in, table_name}
 use Rattle.ring_types.specs.declared.values.Value.{Value}
 use Rattle.ring_types.specs.declared.values.Value.TheVariants as value
 use Rattle.ring_types.specs.declared.values.Change.{Change}
@@ -16,8 +15,8 @@ use Rattle.ring_types.specs.declared.values.Change.TheVariants.{Insert, Update, 
 use Rattle.ring_types.specs.declared.schemas.Column.{Column}
 use Rattle.ring_types.specs.declared.schemas.Table.{Table}
 use Rattle.ring_types.specs.declared.schemas.Schema.{Schema}
-use Rattle.event_txn.specs.Tables.{table_at, table_number, bitmap, all_ones}
-use Rattle.event_txn.specs.Rows.{value_form, value_text, cell_form, values_form, values_with, values_text, null_bit, nulls_of, image_form, image_with, image_text, key_form, rows_form, rows_text, all_present, key_present, write_form, update_form, delete_form, kind_of, rows_body}
+use Rattle.event_txn.specs.Tables.{table_at, table_number, bitmap}
+use Rattle.event_txn.specs.Rows.{value_text, cell_form, values_form, values_text, null_bit, nulls_of, image_form, image_with, image_text, key_form, rows_form, rows_text, all_present, key_present, write_form, update_form, delete_form, kind_of, rows_body}
 use Rattle.event_txn.specs.Txns.{IsDue, due_rows}
 use Rattle.event_txn.specs.Laws.{FitsValue, FitsValues, FitsChange}
 use Rattle.event_txn.proofs.KeyImages.{both, no_key, key_image, one_each, key_of_row}
@@ -88,7 +87,7 @@ write_spelled place t name row f fits =
     let image : List ℕ = image_text t.columns row in
     (tt, rows_text place t, all_present t ++ image, rows_spelled place t few, (tt, all_present t, image, (tt, refl), image_spelled t.columns row f.columns r.0 (negated (is_null (key_of row)) r.1) fits, refl), append_assoc (rows_text place t) (all_present t) image)
 
-five : (a b c d e : List ℕ) → a ++ b ++ c ++ d ++ e ≡ a ++ (b ++ (c ++ (d ++ e)))
+pub five : (a b c d e : List ℕ) → a ++ b ++ c ++ d ++ e ≡ a ++ (b ++ (c ++ (d ++ e)))
 five a b c d e = simp append_assoc refl
 
 update_spelled : (place : ℕ) (t : Table) (name : List ℕ) (row : List Value) → FitsRow t (Update name row) → FitsValues row → Spells (update_form place t) (rows_body place t (Update name row)) row

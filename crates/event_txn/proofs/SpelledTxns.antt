@@ -1,6 +1,6 @@
 -- The events of a transaction are spelled by its form: one event behind another, by induction over the changes.
-use Rattle.std.proofs.Common.{◌≡◌, ℕ, zero, suc, ◌+◌, ◌*◌, ◌%◌, ◌^◌, ◌<◌, ◌≤◌, Bool, true, false, List, [], ◌∷◌, ◌++◌, length, Some, None, Result, Ok, refl, sym, ap, subst, ◌∙◌, append_assoc, zero-add, arith}
-use Rattle.std.specs.Prelude.{◌&&◌, ◌==◌, not, nat_le}
+use Rattle.std.proofs.Common.{◌≡◌, ℕ, zero, suc, ◌+◌, ◌^◌, ◌<◌, ◌≤◌, true, List, [], ◌∷◌, ◌++◌, length, Some, None, Result, Ok, refl, sym, ap, ◌∙◌, zero-add, arith}
+use Rattle.std.specs.Prelude.{nat_le}
 use Rattle.std.specs.List.{list_all}
 use Rattle.std.proofs.lemmas.Bool.{leb-true, le-leb}
 use Rattle.std.proofs.lemmas.List.{append-nil, length-append}
@@ -8,13 +8,12 @@ use Rattle.event_frame.specs.Forms.{Spells, front_of}
 use Rattle.event_frame.proofs.Forms.{spelled_is_read}
 use Rattle.event_frame.specs.Events.{event, size_of}
 use Rattle.ring_types.specs.Rings.{is_schema}
-use Rattle.ring_types.specs.Rows.{change_fits, changes_fit, is_number, place_in, table_name, fits_table}
+use Rattle.ring_types.specs.Rows.{change_fits}
 use Rattle.ring_types.specs.declared.limits.TheConstants.{LAST_GTID}
 use Rattle.ring_types.specs.declared.values.Gtid.{Gtid}
 use Rattle.ring_types.specs.declared.values.Change.{Change}
 use Rattle.ring_types.specs.declared.values.Txn.{Txn}
 use Rattle.ring_types.specs.declared.entries.Place.{Place}
-use Rattle.ring_types.specs.declared.schemas.Table.{Table}
 use Rattle.ring_types.specs.declared.schemas.Schema.{Schema}
 use Rattle.event_txn.specs.declared.faults.TxnError.{TxnError}
 use Rattle.event_txn.specs.declared.faults.TxnError.TheVariants as error
@@ -23,28 +22,27 @@ use Rattle.event_txn.specs.Bodies.{gtid_body, begin_body, xid_body}
 use Rattle.event_txn.specs.Tables.{table_at, map_body}
 use Rattle.event_txn.specs.Rows.{kind_of, rows_body}
 use Rattle.event_txn.specs.Txns.{Due, Typed, IsDue, IsEvent, due_gtid, due_begin, due_table, due_rows, due_more, changes_form, txn_form, change_bodies, changes_bodies, txn_bodies, events_from, behind, txn_events, txn_at, value_of}
-use Rattle.event_txn.specs.Laws.{FitsChange, FitsChanges, IsTxn, WrittenIsRead, NoneBeginsAnother}
+use Rattle.event_txn.specs.Laws.{FitsChanges, IsTxn, WrittenIsRead, NoneBeginsAnother}
 use Rattle.event_txn.proofs.KeyImages.{both}
 use Rattle.event_txn.proofs.Lengths.{gtid_length}
 use Rattle.event_txn.proofs.Events.{bodies_at}
 use Rattle.event_txn.proofs.Lawful.{txn_fields}
 use Rattle.event_txn.proofs.OneEvent.{event_length}
 use Rattle.event_txn.proofs.Tabled.{Tabled, tabled}
-use Rattle.event_txn.proofs.SpelledBodies.{gtid_spelled, begin_spelled, map_spelled}
-use Rattle.event_txn.proofs.SpelledRows.{row_due}
+use Rattle.event_txn.proofs.SpelledBodies.{gtid_spelled, begin_spelled}
 
 -- an event that is due
 event_spelled : {A : Type 0} (at offset kind : ℕ) (due : ℕ → ℕ → Due A) (body : List ℕ) (a : A) → IsDue (due kind 0) body a → size_of body < 2 ^ 32 → IsEvent at offset due (event kind 0 body (at + offset)) (a, offset + size_of body)
 event_spelled at offset kind due body a h small = (kind, 0, body, h, refl, refl, omega arith, small)
 
-abbrev ending : Schema → ℕ → List Change → List Typed
+abbrev pub ending : Schema → ℕ → List Change → List Typed
 ending schema position changes = changes_bodies schema changes ++ (16, xid_body position) ∷ []
 
 -- the row of a change, and all that stands behind it
-abbrev from_row : Schema → ℕ → Change → ℕ → List Change → List Typed
+abbrev pub from_row : Schema → ℕ → Change → ℕ → List Change → List Typed
 from_row schema position c place changes = (kind_of c, rows_body place (table_at schema place) c) ∷ ending schema position changes
 
-moved : (at offset size : ℕ) (es : List Typed) → events_from (at + offset + size) es ≡ events_from (at + (offset + size)) es
+pub moved : (at offset size : ℕ) (es : List Typed) → events_from (at + offset + size) es ≡ events_from (at + (offset + size)) es
 moved at offset size es = let e : at + offset + size ≡ at + (offset + size) = omega arith in ap (λ (n : ℕ). events_from n es) e
 
 -- each change, with the table that it names
@@ -109,7 +107,7 @@ gtid_due schema txn sequence is some tables =
 abbrev made : Gtid → Change → List Change → Txn
 made g c changes = record { gtid = g; changes = c ∷ changes }
 
-start : (at : ℕ) (es : List Typed) → events_from at es ≡ events_from (at + 0) es
+pub start : (at : ℕ) (es : List Typed) → events_from at es ≡ events_from (at + 0) es
 start at es = let e : at ≡ at + 0 = omega arith in ap (λ (n : ℕ). events_from n es) e
 
 txn_spelled : (count : ℕ) (schema : Schema) (g : Gtid) (c : Change) (changes : List Change) (position : ℕ) (place : Place) (t : Tabled schema c) → IsTxn schema (made g c changes) → 1 ≤ place.sequence → 1 ≤ length schema.tables

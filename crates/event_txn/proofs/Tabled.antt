@@ -1,6 +1,6 @@
 -- What a change of a transaction that fits has: its table's place, and that its two bodies are due and short.
-use Rattle.std.proofs.Common.{◌≡◌, ℕ, zero, suc, ◌+◌, ◌*◌, ◌^◌, ◌<◌, ◌≤◌, Bool, true, false, List, [], ◌∷◌, length, Some, None, Option, refl, sym, ap, ◌∙◌, arith}
-use Rattle.std.specs.Prelude.{◌&&◌, ◌||◌, not, find, slice_get, unwrap_or, bytes_eq, nat_le, nat_lt}
+use Rattle.std.proofs.Common.{◌≡◌, ℕ, zero, suc, ◌^◌, ◌<◌, ◌≤◌, true, false, List, [], ◌∷◌, length, Some, arith}
+use Rattle.std.specs.Prelude.{◌&&◌, ◌||◌, not, slice_get, unwrap_or, nat_le, nat_lt}
 use Rattle.std.specs.List.{list_all, list_any}
 use Rattle.event_frame.specs.Forms.{Spells}
 use Rattle.event_frame.specs.Events.{size_of}

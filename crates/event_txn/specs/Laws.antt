@@ -1,4 +1,4 @@
--- What holds of every transaction's events: what was written is read, whatever stands behind it; so no transaction's events begin another's.
+-- What holds of every transaction's events: what was written is read, whatever stands behind it, and what is read was written so; no transaction's events begin another's; and how many bytes they take.
 use Rattle.std.specs.Prelude.{◌≡◌, ℕ, ◌^◌, ◌<◌, ◌≤◌, ◌+◌, true, List, [], ◌∷◌, ◌++◌, length, Ok, FitsSigned}
 use Rattle.std.specs.Int.{w64}
 use Rattle.std.specs.Str.{is_utf8}
@@ -13,6 +13,8 @@ use Rattle.ring_types.specs.declared.values.Change.TheVariants.{Insert, Update, 
 use Rattle.ring_types.specs.declared.values.Txn.{Txn}
 use Rattle.ring_types.specs.declared.entries.Place.{Place}
 use Rattle.ring_types.specs.declared.schemas.Schema.{Schema}
+use Rattle.event_frame.specs.Laws.{IsBytes}
+use Rattle.event_txn.specs.declared.reading.TxnRead.{TxnRead}
 use Rattle.event_txn.specs.Txns.{txn_events, txn_at}
 
 -- numbers of 64 bits, and texts of UTF-8
@@ -57,3 +59,15 @@ abbrev pub EventsHaveSize : Type 0
 EventsHaveSize =
     (schema : Schema) (txn : Txn) (position : ℕ) (place : Place) → is_schema schema ≡ true → changes_fit schema txn.changes ≡ true
     → length (txn_events schema txn position place) + 42 ≡ group_bytes schema (payload.Txn txn)
+
+-- the bytes begin with the events of the transaction that was read
+pub record IsTxnAtFront (schema : Schema) (bytes : List ℕ) (position : ℕ) (place : Place) (read : TxnRead) : Type 0 where
+  pub rest : List ℕ
+  pub parts : bytes ≡ txn_events schema read.txn position place ++ rest
+  pub size : read.size ≡ length (txn_events schema read.txn position place)
+  pub txn : IsTxn schema read.txn
+  pub sequence : 1 ≤ place.sequence
+
+abbrev pub ReadIsAtFront : Type 0
+ReadIsAtFront =
+    (schema : Schema) (bytes : List ℕ) (position : ℕ) (place : Place) (read : TxnRead) → is_schema schema ≡ true → IsBytes bytes → txn_at schema bytes position place ≡ Ok read → IsTxnAtFront schema bytes position place read

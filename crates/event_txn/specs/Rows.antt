@@ -1,5 +1,5 @@
 -- The bodies that change one row of the table described before them (the MySQL manual's WRITE_ROWS, UPDATE_ROWS and DELETE_ROWS events of version 2, in this project's profile).
-use Rattle.std.specs.Prelude.{◌≡◌, ℕ, ◌+◌, ◌-◌, ◌*◌, ◌/◌, ◌%◌, ◌^◌, ◌<◌, ◌==◌, Bool, true, false, ◌&&◌, List, [], ◌∷◌, ◌++◌, length, take, replicate, nat_lt, if◌then◌else◌}
+use Rattle.std.specs.Prelude.{◌≡◌, ℕ, ◌+◌, ◌-◌, ◌*◌, ◌/◌, ◌%◌, ◌^◌, ◌<◌, ◌==◌, Bool, true, false, ◌&&◌, List, [], ◌∷◌, ◌++◌, length, replicate, nat_lt, if◌then◌else◌}
 use Rattle.std.specs.Int.{Width, w8, w16, w64, to_le_bytes, from_le_bytes, cast_signed, cast_unsigned}
 use Rattle.event_frame.specs.Forms.{Form, Field as FieldOf, Whole, One, ◌>>=◌}
 use Rattle.event_frame.specs.Fields.{constant, number, taken, text, text_fits, packed, packed_text, agrees}

@@ -1,5 +1,5 @@
 -- The body that describes a table before its rows (the MySQL manual's TABLE_MAP_EVENT, in this project's profile). A schema has at most 256 tables, and a table from 1 to 64 columns.
-use Rattle.std.specs.Prelude.{◌≡◌, ℕ, ◌+◌, ◌-◌, ◌^◌, ◌<◌, ◌==◌, ◌&&◌, List, [], ◌∷◌, ◌++◌, length, take, drop, nat_le, bytes_eq, slice_get, unwrap_or}
+use Rattle.std.specs.Prelude.{ℕ, ◌+◌, ◌-◌, ◌^◌, ◌<◌, ◌==◌, ◌&&◌, List, [], ◌∷◌, ◌++◌, length, take, drop, nat_le, bytes_eq, slice_get, unwrap_or}
 use Rattle.std.specs.Int.{w16, w32, w64, to_le_bytes, from_le_bytes}
 use Rattle.event_frame.specs.Forms.{Form, Field as FieldOf, Whole, One, ◌>>=◌}
 use Rattle.event_frame.specs.Fields.{constant, taken, packed, packed_text, agrees}

@@ -1,6 +1,5 @@
 -- A transaction's events: GTID, QUERY with BEGIN, for each change the description of its table and its row, XID. How they are spelled, and which events are due at each place.
 use Rattle.std.specs.Prelude.{◌≡◌, ℕ, zero, suc, ◌+◌, ◌^◌, ◌<◌, ◌==◌, Bool, true, false, ◌&&◌, List, [], ◌∷◌, ◌++◌, length, take, drop, nat_le, if◌then◌else◌, Option, Some, None, Result, Ok, Err}
-use Rattle.std.specs.List.{flat_map}
 use Rattle.std.specs.Option.{option_map_or}
 use Rattle.event_frame.specs.Forms.{Form, Whole, Any, ◌>>=◌, and_then, front_of, body_of, Spells}
 use Rattle.event_frame.specs.Events.{event, event_at, size_of}
@@ -179,6 +178,6 @@ abbrev pub value_of : {A : Type 0} → Result (A × List ℕ) TxnError → Resul
 value_of (Ok p) = Ok p.0
 value_of (Err e) = Err e
 
--- the transaction whose events the bytes begin with, and the size of these; else the refusal of the first event with which none goes on. So many bytes have fewer changes
+-- the transaction whose events the bytes begin with, and the size of these; else the refusal of the first event with which none goes on. Each change takes more than a byte, so the count of bytes never cuts the changes short
 unfoldable pub txn_at : Schema → List ℕ → ℕ → Place → Result TxnRead TxnError
 txn_at schema bytes position place = value_of (front_of (error.Order 0) (txn_form (length bytes) schema position place) bytes)

@@ -25,7 +25,7 @@ mod tables;
 mod writing;
 
 pub use faults::TxnError;
-pub use laws::{law_txn_again, law_txn_front, law_txn_length};
+pub use laws::{law_txn_again, law_txn_front, law_txn_length, law_txn_takes};
 pub use reading::{TxnRead, read_txn};
 pub use writing::write_txn;
 

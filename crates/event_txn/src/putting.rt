@@ -1,7 +1,7 @@
 //! The bodies of a change's two events, put in place behind what was written.
-ghost use Rattle.std.specs.Prelude.{◌≡◌, ◌≤◌, ◌<◌, ◌++◌, ◌∷◌, ◌^◌, [], true, not, length, OnOk, OnErr};
+ghost use Rattle.std.specs.Prelude.{◌≡◌, ◌≤◌, ◌<◌, ◌++◌, ◌∷◌, ◌^◌, [], true, length, OnOk, OnErr};
 ghost use Rattle.std.specs.Int.{to_le_bytes};
-ghost use Rattle.ring_types.specs.Rows.{is_null, key_of, key_fits_in, value_fits, values_fit, row_fits, key_fits, fits_table};
+ghost use Rattle.ring_types.specs.Rows.{key_of, key_fits_in, value_fits, values_fit, fits_table};
 ghost use Rattle.event_txn.specs.Tables.{description, columns_text, types_text, metadata_text, metadata_of, nullable, table_number};
 ghost use Rattle.event_txn.specs.Rows.{nulls_of, lead_of, value_text, values_text, image_text, rows_text, all_present, key_present, rows_body};
 ghost use Rattle.event_txn.specs.Writing.{Keeps};

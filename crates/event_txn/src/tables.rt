@@ -1,5 +1,5 @@
 //! The body that describes a table before its rows.
-ghost use Rattle.std.specs.Prelude.{◌≡◌, ◌≤◌, ◌<◌, ◌-◌, ◌∷◌, [], true, length, IfOk};
+ghost use Rattle.std.specs.Prelude.{◌≡◌, ◌≤◌, ◌<◌, true, length, IfOk};
 ghost use Rattle.event_frame.specs.Forms.{One, body_of, front_of, found};
 ghost use Rattle.event_frame.specs.Fields.{constant};
 ghost use Rattle.event_frame.specs.Reading.{Gives};

@@ -1,9 +1,9 @@
 //! Writing a transaction: its events in order, each body put in place behind its header.
-ghost use Rattle.std.specs.Prelude.{◌≡◌, ◌≤◌, ◌<◌, ◌+◌, ◌%◌, ◌^◌, ◌++◌, ◌∷◌, [], true, length, OnOk, OnErr, IfOk, Some};
+ghost use Rattle.std.specs.Prelude.{◌≡◌, ℕ, ◌≤◌, ◌<◌, ◌+◌, ◌%◌, ◌^◌, ◌++◌, true, length, OnOk, OnErr, IfOk, Some};
 ghost use Rattle.std.specs.List.{list_all};
 ghost use Rattle.event_frame.specs.Events.{event, size_of};
 ghost use Rattle.ring_types.specs.Rings.{is_schema, column_fits};
-ghost use Rattle.ring_types.specs.Rows.{changes_fit, change_fits, fits_table, is_number, place_in, table_name};
+ghost use Rattle.ring_types.specs.Rows.{changes_fit, change_fits, fits_table, place_in, table_name};
 ghost use Rattle.event_txn.specs.Bodies.{gtid_body, begin_body, xid_body};
 ghost use Rattle.event_txn.specs.Tables.{map_body, table_at};
 ghost use Rattle.event_txn.specs.Rows.{kind_of, rows_body};
@@ -132,7 +132,7 @@ fn put_row(
 {
     let begin = out.len();
     let table = table_in(schema, place);
-    let size = row_size(place, table, change);
+    let size = row_size(table, change);
     put_header(out, kind_of(change), 0, size, at)?;
     put_change_body(out, place, table, change)?;
     put_sum(out, begin)?;
@@ -141,15 +141,14 @@ fn put_row(
 
 /// The bytes of the body that makes a change of the table.
 #[tactic(auto, using(crate::proofs::Lengths::row_length, crate::proofs::Lengths::row_small))]
-fn row_size(place: usize, table: &Table, change: &Change) -> u32
+fn row_size(table: &Table, change: &Change) -> u32
     requires columns { list_all column_fits table.now.columns ≡ true }
     requires some { 1 ≤ length table.now.columns }
     requires few { length table.now.columns ≤ 64 }
     requires fits { fits_table table.now change.now ≡ true }
-    ensures size { result ≡ length (rows_body place table.now change.now) }
+    ensures size { (place : ℕ) → result ≡ length (rows_body place table.now change.now) }
     ensures small { result < 2 ^ 24 }
 {
-    let _ = place;
     rows_event_size(table, change) as u32 - 23
 }
 

@@ -1,10 +1,9 @@
-use Rattle.std.proofs.Common.{◌≡◌, ◌+◌, ◌%◌, ◌^◌, ◌++◌, ◌∷◌, ℕ, drop, sym, ap, ◌∙◌, arith}
-use Rattle.std.proofs.lemmas.List.{drop_more, drop_all}
+use Rattle.std.proofs.Common.{◌≡◌, ◌+◌, ◌∷◌, ℕ, drop, sym, ap, ◌∙◌, arith}
+use Rattle.std.proofs.lemmas.List.{drop_more}
 use Rattle.std.proofs.lemmas.Result.{err_from_is_err_and}
 use Rattle.ring_types.specs.declared.values.Change.{Change}
-use Rattle.event_txn.specs.Txns.{changes_bodies, events_from, behind}
 use Rattle.event_txn.proofs.Kept.{kept_on, kept_more}
-use Rattle.event_txn.proofs.Events.{StandsAt, goes_on, ends_there}
+use Rattle.event_txn.proofs.Events.{goes_on, ends_there}
 use Rattle.event_txn.proofs.writing.put_changes.Goals as goal
 
 pub returns-in_err-offset-clause-err : goal.returns-in_err-offset-clause-err
