@@ -42,7 +42,7 @@ most (payload.Txn t) = omega arith
 -- what stands behind the opid event is read as it was written
 payload_is_read : (schema : Schema) (k : Payload) (opid : Opid) (region : ℕ) (p : Place) (rest : List ℕ) → can_stand schema p (kind_of k) ≡ true → FitsPayload schema k
     → payload_at schema (behind_opid schema opid.position k (further 42 p) ++ rest) 42 (record { kind = kind_of k; opid = opid; region = region; size = 42 }) (further 42 p)
-      ≡ Ok (k, length (behind_opid schema opid.position k (further 42 p)))
+    ≡ Ok (k, length (behind_opid schema opid.position k (further 42 p)))
 payload_is_read schema payload.NoOp opid region p rest room fits = refl
 payload_is_read schema payload.Rotate opid region p rest room fits =
     let le : p.file + 1 ≤ LAST_FILE = grind (arith, nat_tests, room) in

@@ -18,5 +18,7 @@ mod tests;
 
 pub use files::file_sizes;
 pub use groups::{EntryError, EntryRead, read_entry, write_entry};
-pub use laws::{law_file_sizes, law_files, law_group_again, law_group_front, law_group_length, law_group_takes};
+pub use laws::{
+    law_file_sizes, law_files, law_group_again, law_group_front, law_group_length, law_group_takes,
+};
 pub use ring_plain::group_size;

@@ -4,7 +4,7 @@ ghost use Rattle.ring_types.specs.Rings.{is_schema};
 ghost use Rattle.ring_types.specs.Rows.{payload_fits};
 
 use crate::{EntryError, EntryRead, file_sizes, group_size, read_entry, write_entry};
-use event_control::{write_head, write_opid, write_rotate};
+use event_control::{read_head, write_head, write_opid, write_rotate};
 use event_frame::{crc32, write_event};
 use ring_plain::payload_fits;
 use ring_types::{
@@ -256,5 +256,119 @@ fn a_transaction_without_a_number(rt: HostRuntime) -> Result<(), Fail> {
         sequence: 0,
     };
     assert!(rt; refusal(&rt, bytes.as_slice(), unnumbered)? == not(0, 1));
+    Ok(())
+}
+
+/// Where each event of the file with one insert begins, and which event is due there.
+const EVENTS: [(usize, u8); 7] = [
+    (157, 1),
+    (199, 1),
+    (241, 3),
+    (306, 3),
+    (348, 3),
+    (394, 3),
+    (440, 3),
+];
+
+/// What the group that begins at `begin` is refused for if its event at this offset of the file is at
+/// fault.
+fn fault_at(begin: usize, offset: usize) -> Option<EntryError> {
+    let mut fault = None;
+    for (start, why) in &EVENTS {
+        if begin <= *start && *start <= offset {
+            fault = not((*start - begin) as u64, *why);
+        }
+    }
+    fault
+}
+
+/// The group of the file with one insert to which this offset belongs, and its place.
+fn group_of(offset: usize) -> (usize, Place) {
+    if offset < 199 {
+        (157, FIRST)
+    } else {
+        (199, SECOND)
+    }
+}
+
+fn one_insert(rt: &(impl AllocGlobal + Abort)) -> Result<Vec<u8>, Fail> {
+    let ring = ring(rt, rt.alloc())?;
+    let schema = schema_of(&ring);
+    let mut file = Vec::new(rt.alloc());
+    write_head(&mut file, &[0; 8])?;
+    put(rt, &mut file, schema, &entry(1, Payload::NoOp), FIRST)?;
+    put(rt, &mut file, schema, &inserted(rt.alloc())?, SECOND)?;
+    Ok(file)
+}
+
+/// Whether what stands at this place is refused as an event at this offset of the file should be.
+fn is_refused(rt: &(impl AllocGlobal + Abort), schema: &Schema, file: &[u8], offset: usize) -> bool
+    requires { is_schema schema.now ≡ true }
+{
+    let (begin, place) = group_of(offset);
+    match file.get(begin..) {
+        Some(bytes) => {
+            read_entry(rt.alloc(), schema, bytes, place).err() == fault_at(begin, offset)
+        }
+        None => false,
+    }
+}
+
+/// Whether the file is refused as an event at this offset should be.
+fn is_told(rt: &(impl AllocGlobal + Abort), schema: &Schema, file: &[u8], offset: usize) -> bool
+    requires { is_schema schema.now ≡ true }
+{
+    if offset < 157 {
+        read_head(file).is_err()
+    } else {
+        is_refused(rt, schema, file, offset)
+    }
+}
+
+/// Turns one bit of the file over.
+fn turn(file: &mut [u8], offset: usize, bit: u8) {
+    if let Some(byte) = file.get_mut(offset) {
+        *byte ^= bit;
+    }
+}
+
+/// Whether the file is refused with each bit of the byte at this offset turned over.
+fn each_bit_is_told(
+    rt: &(impl AllocGlobal + Abort),
+    schema: &Schema,
+    file: &mut [u8],
+    offset: usize,
+) -> bool
+    requires { is_schema schema.now ≡ true }
+{
+    let mut all = true;
+    for bit in [1u8, 2, 4, 8, 16, 32, 64, 128] {
+        turn(file, offset, bit);
+        all = all && is_told(rt, schema, file, offset);
+        turn(file, offset, bit);
+    }
+    all
+}
+
+#[test]
+fn each_bit_turned_over_is_refused_at_its_event(rt: HostRuntime) -> Result<(), Fail> {
+    let ring = ring(&rt, rt.alloc())?;
+    let schema = schema_of(&ring);
+    let mut file = one_insert(&rt)?;
+    for offset in 0..471usize {
+        assert!(rt; each_bit_is_told(&rt, schema, file.as_mut_slice(), offset));
+    }
+    Ok(())
+}
+
+#[test]
+fn each_cut_is_refused_at_its_event(rt: HostRuntime) -> Result<(), Fail> {
+    let ring = ring(&rt, rt.alloc())?;
+    let schema = schema_of(&ring);
+    let file = one_insert(&rt)?;
+    for end in 0..471usize {
+        let cut = file.get(..end).unwrap_or(&[]);
+        assert!(rt; is_told(&rt, schema, cut, end));
+    }
     Ok(())
 }
