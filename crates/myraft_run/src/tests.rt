@@ -33,6 +33,7 @@ vote 1 1 1
 log 1 1 1 noop
 log 2 1 1 txn 3e11fa47-71ca-11e1-9e33-c80aa9429562:1
 gtids 3e11fa47-71ca-11e1-9e33-c80aa9429562:1
+file binlog.000001 472
 table t 1
 row 7 'a'
 said 2 1 committed 3e11fa47-71ca-11e1-9e33-c80aa9429562:1 1:2

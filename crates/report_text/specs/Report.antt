@@ -1,6 +1,8 @@
 -- The report of a world: its lines, each ended by a line feed.
-use Rattle.std.specs.Prelude.{ℕ, List, [], ◌∷◌, ◌++◌, ◌+◌, length, take, if◌then◌else◌, None, Some, codes}
+use Rattle.std.specs.Prelude.{ℕ, ◌+◌, Bool, true, false, not, ◌||◌, List, [], ◌∷◌, ◌++◌, length, map, take, count_by, if◌then◌else◌, None, Some, codes}
 use Rattle.std.specs.List.{flat_map}
+use Rattle.event_control.specs.Bodies.{six_digits}
+use Rattle.entry_group.specs.Files.{file_sizes, told_size}
 use Rattle.ring_types.specs.Gtids.{gtids}
 use Rattle.ring_types.specs.Rings.{Layout, runs_engine}
 use Rattle.ring_types.specs.Rows.{Rows, Tables, rows, rows_at}
@@ -14,6 +16,7 @@ use Rattle.ring_model.specs.declared.nodes.Durable.{Durable}
 use Rattle.ring_model.specs.declared.nodes.Role.{Role}
 use Rattle.ring_model.specs.declared.nodes.Role.TheVariants as role
 use Rattle.ring_model.specs.declared.nodes.Soft.{Soft}
+use Rattle.ring_model.specs.declared.effects.What.TheVariants as what
 use Rattle.ring_model.specs.declared.worlds.Kept.{Kept}
 use Rattle.ring_model.specs.declared.worlds.Said.{Said}
 use Rattle.ring_model.specs.declared.worlds.Shown.{Shown}
@@ -64,6 +67,23 @@ shown_set (s ∷ sets) = set_text (s ∷ sets)
 unfoldable pub gtids_line : List Entry → List ℕ
 gtids_line log = codes "gtids " ++ shown_set (gtids log) ++ line_end
 
+-- ---- its binary log files
+-- the digits in a file's name
+unfoldable pub name_digits : ℕ → List ℕ
+name_digits number = six_digits number
+
+-- a file's name and its size, as it is told
+unfoldable pub file_line : ℕ → ℕ → List ℕ
+file_line number size = codes "file binlog." ++ name_digits number ++ field (codes " ") size ++ line_end
+
+-- a line for each file, where so many stand before the first
+abbrev pub file_lines : ℕ → List ℕ → List ℕ
+file_lines before [] = []
+file_lines before (size ∷ sizes) = file_line (before + 1) size ++ file_lines (before + 1) sizes
+
+unfoldable pub files_text : Schema → List Entry → List ℕ
+files_text schema log = file_lines 0 (map told_size (file_sizes schema log))
+
 -- ---- its tables
 abbrev pub after_space : Value → List ℕ
 after_space v = codes " " ++ value_text v
@@ -71,9 +91,13 @@ after_space v = codes " " ++ value_text v
 unfoldable pub row_line : List Value → List ℕ
 row_line row = codes "row" ++ flat_map after_space row ++ line_end
 
--- the table's name, how many rows it has, and the rows
-unfoldable pub table_text : Table → Rows → List ℕ
-table_text t rows = codes "table " ++ t.name ++ field (codes " ") (length rows) ++ line_end ++ flat_map row_line rows
+-- the table's name and how many rows it has
+unfoldable pub table_line : Table → Rows → List ℕ
+table_line t rows = codes "table " ++ t.name ++ field (codes " ") (length rows) ++ line_end
+
+-- the same, and the rows
+abbrev pub table_text : Table → Rows → List ℕ
+table_text t rows = table_line t rows ++ flat_map row_line rows
 
 -- declared tables with their rows, the first of them at this place
 abbrev pub tables_from : ℕ → List Table → Tables → List ℕ
@@ -93,7 +117,9 @@ engine_text ring s = if runs_engine ring s.node then applied_tables ring.schema 
 
 -- all lines of one node
 unfoldable pub block : Layout → Shown → List ℕ
-block ring s = node_line s ++ flat_map vote_line s.durable.votes ++ flat_map log_line s.durable.log ++ gtids_line s.durable.log ++ engine_text ring s
+block ring s =
+    node_line s ++ flat_map vote_line s.durable.votes ++ flat_map log_line s.durable.log ++ gtids_line s.durable.log
+    ++ files_text ring.schema s.durable.log ++ engine_text ring s
 
 -- ---- the whole
 unfoldable pub head_line : World → List ℕ
@@ -111,3 +137,43 @@ kept_line k = field (codes "kept ") k.event ++ field (codes " ") k.node ++ field
 
 unfoldable pub report : Layout → World → List ℕ
 report ring w = head_line w ++ flat_map chosen_line w.chosen ++ flat_map (block ring) w.nodes ++ flat_map said_line w.said ++ flat_map kept_line w.kept
+
+-- ---- the whole in short
+-- declared tables with how many rows they have, the first of them at this place
+abbrev pub table_lines : ℕ → List Table → Tables → List ℕ
+table_lines place [] tables = []
+table_lines place (t ∷ declared) tables = table_line t (rows_at tables place) ++ table_lines (place + 1) declared tables
+
+unfoldable pub counted_tables : Schema → Durable → List ℕ
+counted_tables schema d = table_lines 0 schema.tables (rows schema (take d.applied d.log))
+
+abbrev pub engine_lines : Layout → Shown → List ℕ
+engine_lines ring s = if runs_engine ring s.node then counted_tables ring.schema s.durable else []
+
+unfoldable pub short_block : Layout → Shown → List ℕ
+short_block ring s = node_line s ++ gtids_line s.durable.log ++ files_text ring.schema s.durable.log ++ engine_lines ring s
+
+abbrev pub is_committed : Said → Bool
+is_committed s = elim s.say.what [ what.Committed gtid opid term ↦ true | _ ↦ false ]
+
+abbrev pub is_unknown : Said → Bool
+is_unknown s = elim s.say.what [ what.Unknown gtid opid ↦ true | _ ↦ false ]
+
+abbrev pub is_refused : Said → Bool
+is_refused s = elim s.say.what [ what.Refused cause ↦ true | _ ↦ false ]
+
+abbrev pub is_other : Said → Bool
+is_other s = not (is_committed s || is_unknown s || is_refused s)
+
+-- how many sayings there are of each kind
+unfoldable pub sayings_line : List Said → List ℕ
+sayings_line said =
+    field (codes "sayings committed ") (count_by is_committed said) ++ field (codes " unknown ") (count_by is_unknown said)
+    ++ field (codes " refused ") (count_by is_refused said) ++ field (codes " other ") (count_by is_other said) ++ line_end
+
+-- how many steps were cut
+unfoldable pub stops_line : List Kept → List ℕ
+stops_line kept = field (codes "stops ") (length kept) ++ line_end
+
+unfoldable pub summary : Layout → World → List ℕ
+summary ring w = head_line w ++ flat_map (short_block ring) w.nodes ++ sayings_line w.said ++ stops_line w.kept

@@ -5,12 +5,15 @@
 #![tactic(auto)]
 
 mod appending;
+mod file_lines;
 mod node_block;
 mod reports;
 mod sayings;
+mod summaries;
 mod table_text;
 #[cfg(test)]
 mod tests;
 mod words;
 
 pub use reports::{write_node, write_report};
+pub use summaries::write_summary;

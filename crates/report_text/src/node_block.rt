@@ -3,7 +3,8 @@ ghost use Rattle.std.specs.List.{flat_map};
 ghost use Rattle.report_text.specs.Report as spec;
 
 use crate::appending::{put, put_field};
-use crate::table_text::put_applied_tables;
+use crate::file_lines::put_files;
+use crate::table_text::{put_applied_tables, put_counted_tables};
 use crate::words::{put_entry, put_set};
 use ring_model::{Durable, Role, Shown, Soft};
 use ring_plain::gtids;
@@ -155,5 +156,37 @@ pub(crate) fn put_block(
     put_vote_lines(out, node.durable.votes.as_slice())?;
     put_log_lines(out, node.durable.log.as_slice())?;
     put_gtids_line(alloc, out, node.durable.log.as_slice())?;
+    put_files(alloc, out, ring.schema(), node.durable.log.as_slice())?;
     put_engine_text(alloc, out, ring, node)
+}
+
+fn put_engine_lines(
+    alloc: Global,
+    out: &mut Vec<u8>,
+    ring: &Ring,
+    node: &Shown,
+) -> Result<(), Memory>
+    ensures { OnOk result (out.new.items ≡ out.old.items ++ spec.engine_lines ring.now node.now) }
+{
+    if ring.runs_engine(node.node) {
+        put_counted_tables(alloc, out, ring.schema(), &node.durable)
+    } else {
+        Ok(())
+    }
+}
+
+/// Puts the lines of one node that a summary has at the end.
+#[tactic(auto, unfolding(crate::specs::Report::short_block))]
+pub(crate) fn put_short_block(
+    alloc: Global,
+    out: &mut Vec<u8>,
+    ring: &Ring,
+    node: &Shown,
+) -> Result<(), Memory>
+    ensures { OnOk result (out.new.items ≡ out.old.items ++ spec.short_block ring.now node.now) }
+{
+    put_node_line(out, node)?;
+    put_gtids_line(alloc, out, node.durable.log.as_slice())?;
+    put_files(alloc, out, ring.schema(), node.durable.log.as_slice())?;
+    put_engine_lines(alloc, out, ring, node)
 }

@@ -11,7 +11,7 @@ use ring_types::{Entry, List, Memory, Ring};
 use std::alloc::Global;
 
 #[tactic(auto, unfolding(crate::specs::Report::head_line))]
-fn put_head_line(out: &mut Vec<u8>, world: &World) -> Result<(), Memory>
+pub(crate) fn put_head_line(out: &mut Vec<u8>, world: &World) -> Result<(), Memory>
     ensures { OnOk result (out.new.items ≡ out.old.items ++ spec.head_line world.now) }
 {
     put_field(out, b"events ", world.events)?;

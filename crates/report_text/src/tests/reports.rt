@@ -1,6 +1,6 @@
 //! Whole reports of a ring of one voter.
 use super::fixtures::{SERVER, entry, gtid, none, one, pair, ring, shows, soft, txn, vote};
-use crate::write_report;
+use crate::{write_report, write_summary};
 use ring_model::{Durable, Kept, Role, Said, Say, Shown, What, World};
 use ring_types::{Entry, List, NodeId, Opid, Payload, Ring};
 use std::process::Abort;
@@ -87,6 +87,7 @@ vote 1 1 1
 log 1 1 1 noop
 log 2 1 1 txn 3e11fa47-71ca-11e1-9e33-c80aa9429562:1
 gtids 3e11fa47-71ca-11e1-9e33-c80aa9429562:1
+file binlog.000001 471
 table t 1
 row 7 'a'
 said 2 1 committed 3e11fa47-71ca-11e1-9e33-c80aa9429562:1 1:2
@@ -95,6 +96,25 @@ said 2 1 committed 3e11fa47-71ca-11e1-9e33-c80aa9429562:1 1:2
 #[test]
 fn one_insert_on_one_voter(rt: HostRuntime) {
     shows(&rt, report(&rt, inserted_world(&rt)), ONE_INSERT);
+}
+
+const IN_SHORT: &str = "\
+events 2 messages 0 chosen 2
+node 1 leader term 1 length 2 commit 2 applied 2 prepared 0
+gtids 3e11fa47-71ca-11e1-9e33-c80aa9429562:1
+file binlog.000001 471
+table t 1
+sayings committed 1 unknown 0 refused 0 other 0
+stops 0
+";
+
+fn summary(rt: &(impl AllocGlobal + Abort), ring: &Ring, world: World) -> List<u8> {
+    write_summary(rt.alloc(), ring, &world).expect(rt, "memory")
+}
+
+#[test]
+fn one_insert_in_short(rt: HostRuntime) {
+    shows(&rt, summary(&rt, &ring(&rt), inserted_world(&rt)), IN_SHORT);
 }
 
 // ---- no event
@@ -122,6 +142,7 @@ const NO_EVENT: &str = "\
 events 0 messages 0 chosen 0
 node 1 follower term 0 length 0 commit 0 applied 0 prepared 0
 gtids -
+file binlog.000001 157
 table t 0
 ";
 
@@ -148,6 +169,7 @@ const CUT: &str = "\
 events 1 messages 0 chosen 0
 node 1 follower term 0 length 0 commit 0 applied 0 prepared 0
 gtids -
+file binlog.000001 157
 table t 0
 kept 1 1 3
 ";
