@@ -1,6 +1,7 @@
 -- intervals
-pub mod Ends
-pub mod Places
+pub mod Begun
+pub mod Entries
+pub mod Growing
 pub mod RangeMembers
 -- servers
 pub mod ServerPlaces

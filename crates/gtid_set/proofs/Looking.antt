@@ -61,16 +61,6 @@ tops_end low top (i ∷ is) h le =
     let last : max top i.last ≡ i.last = omega arith in
     ap (λ (t : ℕ). tops t is) last ∙ tops_end (i.last + 1) i.last is h.3 (omega arith)
 
-end_of_last : (n : ℕ) (d i : Interval) (is : List Interval) → end_behind n (i ∷ is) ≡ (get_or (i ∷ is) (length is) d).last
-end_of_last n d i [] = refl
-end_of_last n d i (j ∷ is) = end_of_last i.last d j is
-
-pub last_end : (d : Interval) (is : List Interval) → 0 < length is → (get_or is (length is - 1) d).last ≡ end_behind 0 is
-last_end d [] lt = absurd (omega arith)
-last_end d (i ∷ is) lt =
-    let at : length (i ∷ is) - 1 ≡ length is = omega arith in
-    ap (λ (k : ℕ). (get_or (i ∷ is) k d).last) at ∙ sym (end_of_last 0 d i is)
-
 greatest_none : (low server top : ℕ) (set : List ServerSet) → AreCanonicalFrom low set → server < low → greatest_in server top set ≡ top
 greatest_none low server top [] h lt = refl
 greatest_none low server top (s ∷ set) h lt =

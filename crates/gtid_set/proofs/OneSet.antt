@@ -7,7 +7,7 @@ use Rattle.ring_types.specs.declared.gtid_sets.Interval.{Interval}
 use Rattle.ring_types.specs.declared.gtid_sets.ServerSet.{ServerSet}
 use Rattle.gtid_set.specs.Canonical.{AreMerged, AreCanonicalFrom}
 use Rattle.gtid_set.specs.Laws.{OneSetHasThem}
-use Rattle.gtid_set.proofs.Places.{none_held}
+use Rattle.gtid_set.proofs.Begun.{none_held}
 use Rattle.gtid_set.proofs.RangeMembers.{held}
 use Rattle.gtid_set.proofs.ServerMembers.{none_server}
 

@@ -7,7 +7,7 @@ use Rattle.ring_types.specs.declared.limits.TheConstants.{LAST_GTID}
 use Rattle.ring_types.specs.declared.gtid_sets.Interval.{Interval}
 use Rattle.gtid_set.specs.Canonical.{AreMerged}
 use Rattle.gtid_set.specs.Ranges.{swallowed, put_first, with_range, part_below, part_above, cut_out, without}
-use Rattle.gtid_set.proofs.Places.{none_held}
+use Rattle.gtid_set.proofs.Begun.{none_held}
 
 abbrev pub held : ℕ → List Interval → Bool
 held n is = list_any (interval_has n) is

@@ -128,14 +128,3 @@ some_left k x y xs ys lt read is some =
     let same : ys ≡ y.intervals = is ∙ ap (λ (s : ServerSet). s.intervals) (read ∙ get_or-set_same xs k y x lt) in
     let long : 0 < length ys = grind (arith, nat_tests, some) in
     subst (λ (zs : List Interval). 0 < length zs) same long
-
--- ---- ranges one after the other
-pub merged_one : (low k : ℕ) (d : Interval) (is : List Interval) → AreMerged low is → k < length is → AreMerged 0 (get_or is k d ∷ [])
-merged_one low k d [] h lt = absurd (omega arith)
-merged_one low zero d (i ∷ is) h lt = let l : low < i.first = h.0 in (let z : 0 < i.first = omega arith in z, h.1, h.2, tt)
-merged_one low (suc k) d (i ∷ is) h lt = merged_one (i.last + 1) k d is h.3 (omega arith)
-
-pub ranges_step : (server k : ℕ) (d : Interval) (is : List Interval) (old new : List ServerSet) → k < length is → new ≡ range_in server (get_or is k d) old
-    → ranges_in server (drop (k + 1) is) new ≡ ranges_in server (drop k is) old
-ranges_step server k d is old new lt e =
-    ap (ranges_in server (drop (k + 1) is)) e ∙ sym (at_drop_more (λ (l : List Interval). ranges_in server l old) is k d lt)

@@ -1,5 +1,5 @@
 -- What becomes of ascending servers where a range of one is put in or a number taken out. Only contracts of private functions cite these.
-use Rattle.std.specs.Prelude.{ℕ, suc, ◌==◌, Bool, false, List, [], ◌∷◌, ◌++◌, drop, nat_lt, if◌then◌else◌}
+use Rattle.std.specs.Prelude.{ℕ, suc, ◌==◌, Bool, false, List, [], ◌∷◌, ◌++◌, drop, nat_lt, if◌then◌else◌, Option, Some, None}
 use Rattle.ring_types.specs.declared.gtid_sets.Interval.{Interval}
 use Rattle.ring_types.specs.declared.gtid_sets.ServerSet.{ServerSet}
 use Rattle.gtid_set.specs.Ranges.{with_range, without}
@@ -61,3 +61,7 @@ first_intervals server (s ∷ set) = if s.server == server then s.intervals else
 
 abbrev pub intervals_of : ℕ → List ServerSet → List Interval
 intervals_of server set = first_intervals server (drop (servers_below server set) set)
+
+abbrev pub intervals_in : Option ServerSet → List Interval
+intervals_in None = []
+intervals_in (Some s) = s.intervals

@@ -2,13 +2,15 @@ ghost use Rattle.std.specs.Prelude.{◌≡◌, ◌+◌, ◌++◌, ◌≤◌, [],
 ghost use Rattle.std.specs.List.{flat_map};
 ghost use Rattle.std.specs.Option.{option_map};
 ghost use Rattle.gtid_set.specs.Canonical.{AreMerged, IsCanonical, IsSpelled};
+ghost use Rattle.gtid_set.specs.Ranges.{intervals};
 ghost use Rattle.gtid_set.specs.Bytes as spec;
 ghost use Rattle.gtid_set.specs.Reading as reading;
 
 use crate::faults::SetError;
+use crate::intervals::Ends;
 use crate::servers::ServerNumbers;
 use crate::sets::GtidSet;
-use ring_types::{Interval, LAST_GTID, List, Memory};
+use ring_types::{Interval, LAST_GTID, List, Memory, ServerSet};
 use std::alloc::Global;
 
 #[tactic(auto, unfolding(crate::specs::Bytes::number_bytes))]
@@ -27,19 +29,23 @@ fn put_uuid(out: &mut Vec<u8>, server: u128) -> Result<(), Memory>
     Ok(())
 }
 
-fn put_interval(out: &mut Vec<u8>, interval: &Interval) -> Result<(), Memory>
-    requires { interval.now.last ≤ LAST_GTID }
-    ensures { OnOk result (out.new.items ≡ out.old.items ++ spec.interval_bytes interval.now) }
+fn put_interval(out: &mut Vec<u8>, interval: Interval) -> Result<(), Memory>
+    requires { interval.last ≤ LAST_GTID }
+    ensures { OnOk result (out.new.items ≡ out.old.items ++ spec.interval_bytes interval) }
 {
     put_number(out, interval.first)?;
     put_number(out, interval.last + 1)
 }
 
-fn put_intervals(out: &mut Vec<u8>, intervals: &[Interval]) -> Result<(), Memory>
-    requires { AreMerged 0 intervals.now }
-    ensures { OnOk result (out.new.items ≡ out.old.items ++ flat_map spec.interval_bytes intervals.now) }
+fn put_intervals(out: &mut Vec<u8>, ends: &Ends) -> Result<(), Memory>
+    requires { AreMerged 0 (intervals ends.now.entries) }
+    ensures { OnOk result (out.new.items ≡ out.old.items ++ flat_map spec.interval_bytes (intervals ends.now.entries)) }
 {
-    for interval in intervals {
+    for (first, last) in ends {
+        let interval = Interval {
+            first: *first,
+            last: *last,
+        };
         put_interval(out, interval)?;
     }
     Ok(())
@@ -50,8 +56,8 @@ fn put_server(out: &mut Vec<u8>, set: &ServerNumbers) -> Result<(), Memory>
     ensures { OnOk result (out.new.items ≡ out.old.items ++ spec.server_bytes set.now) }
 {
     put_uuid(out, set.server())?;
-    put_number(out, set.intervals().len() as u64)?;
-    put_intervals(out, set.intervals())
+    put_number(out, set.ends().len() as u64)?;
+    put_intervals(out, set.ends())
 }
 
 fn put_set(out: &mut Vec<u8>, servers: &[ServerNumbers]) -> Result<(), Memory>
@@ -127,7 +133,7 @@ fn intervals_at(
     Ok(Some((found, rest)))
 }
 
-fn server_at(alloc: Global, bytes: &[u8]) -> Result<Option<(ServerNumbers, &[u8])>, Memory>
+fn server_at(alloc: Global, bytes: &[u8]) -> Result<Option<(ServerSet, &[u8])>, Memory>
     ensures { IfOk result (λ it. option_map (λ x. (x.0, x.1.now)) it ≡ reading.server_at bytes.now) }
 {
     let Some((server, rest)) = uuid_at(bytes) else {
@@ -137,7 +143,10 @@ fn server_at(alloc: Global, bytes: &[u8]) -> Result<Option<(ServerNumbers, &[u8]
         return Ok(None);
     };
     match intervals_at(alloc, count, rest)? {
-        Some((intervals, rest)) => Ok(Some((ServerNumbers::new(server, intervals), rest))),
+        Some((intervals, rest)) => {
+            let intervals = List::from_vec(intervals);
+            Ok(Some((ServerSet { server, intervals }, rest)))
+        }
         None => Ok(None),
     }
 }
@@ -146,7 +155,7 @@ fn servers_at(
     alloc: Global,
     count: u64,
     bytes: &[u8],
-) -> Result<Option<(Vec<ServerNumbers>, &[u8])>, Memory>
+) -> Result<Option<(Vec<ServerSet>, &[u8])>, Memory>
     ensures { IfOk result (λ it. option_map (λ x. (x.0.items, x.1.now)) it ≡ reading.servers_at [] count bytes.now) }
 {
     let mut found = Vec::new(alloc);
@@ -164,7 +173,7 @@ fn servers_at(
 }
 
 /// The servers that the bytes begin with, in whatever order and with whatever intervals.
-fn set_at(alloc: Global, bytes: &[u8]) -> Result<Option<(Vec<ServerNumbers>, &[u8])>, Memory>
+fn set_at(alloc: Global, bytes: &[u8]) -> Result<Option<(Vec<ServerSet>, &[u8])>, Memory>
     ensures { IfOk result (λ it. option_map (λ x. (x.0.items, x.1.now)) it ≡ reading.set_at bytes.now) }
 {
     match number_at(bytes) {
@@ -180,7 +189,7 @@ fn read_set(alloc: Global, bytes: &[u8]) -> Result<Option<GtidSet>, Memory>
     let Some((servers, _rest)) = set_at(alloc, bytes)? else {
         return Ok(None);
     };
-    let Some(set) = GtidSet::of(alloc, servers) else {
+    let Some(set) = GtidSet::of(alloc, servers.as_slice())? else {
         return Ok(None);
     };
     let again = set.to_bytes(alloc)?;

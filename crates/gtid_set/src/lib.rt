@@ -14,8 +14,9 @@
 //! compare. So they take exactly the one spelling that [`GtidSet::to_bytes`] and
 //! [`GtidSet::to_text`] give.
 //!
-//! An interval is found by halving. Adding a number between two intervals, or taking the whole of
-//! one out, moves those behind it.
+//! The intervals of a server stand in a map from each one's first number to its last, so that a
+//! number is put in, taken out or looked up in time that grows with the logarithm of their count.
+//! Servers are few, and stand in a list.
 #![tactic(auto)]
 
 mod bytes;

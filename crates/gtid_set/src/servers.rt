@@ -1,21 +1,23 @@
-ghost use Rattle.std.specs.Prelude.{◌≡◌, [], ◌<◌, ◌≤◌, ◌↔◌, IfOk, IsTrue, OnErr, OnOk, drop, length, nat_le};
+ghost use Rattle.std.specs.Prelude.{◌≡◌, [], ◌<◌, ◌≤◌, ◌==◌, IfOk, IsTrue, OnErr, OnOk, drop, length, nat_le};
+ghost use Rattle.std.specs.Option.{option_copied};
 ghost use Rattle.ring_types.specs.declared.gtid_sets.ServerSet.{ServerSet};
 ghost use Rattle.gtid_set.specs.Canonical.{AreMerged, IsCanonical};
-ghost use Rattle.gtid_set.specs.Ranges.{with_range, without};
+ghost use Rattle.gtid_set.specs.Ranges.{end_behind, intervals, with_range, without};
 ghost use Rattle.gtid_set.specs.Servers as spec;
 ghost use Rattle.gtid_set.specs.Reading as reading;
 
-use crate::intervals;
-use ring_types::{Duplicate, Interval, Memory};
+use crate::intervals::{self, Ends};
+use ring_types::{Duplicate, Interval, Memory, ServerSet};
 use std::alloc::Global;
+use std::collections::BTreeMap;
 use std::marker::Model;
 
-/// The transactions of one server. Contracts see it as a `ServerSet`; the intervals stand in a `Vec`
-/// here, so that one can be put in or taken out in place.
+/// The transactions of one server. Contracts see it as a `ServerSet`; the intervals stand in a map
+/// here, so that one is found, put in or taken out without a walk over the others.
 #[derive(Drop)]
 pub(crate) struct ServerNumbers {
     server: u128,
-    intervals: Vec<Interval>,
+    ends: Ends,
 }
 
 impl Model for ServerNumbers {
@@ -23,15 +25,32 @@ impl Model for ServerNumbers {
 
     ghost Value = { ServerSet };
 
-    ghost view = { λ s. record { server = s.server; intervals = s.intervals.items } };
+    ghost use Rattle.gtid_set.specs.Ranges.{intervals};
+
+    ghost view = { λ s. record { server = s.server; intervals = intervals s.ends.entries } };
 }
 
 impl ServerNumbers {
-    /// A server with these intervals.
-    pub(crate) fn new(server: u128, intervals: Vec<Interval>) -> ServerNumbers
-        ensures { result ≡ record { server = server; intervals = intervals.items } }
+    /// A server without a number.
+    fn new(alloc: Global, server: u128) -> ServerNumbers
+        ensures { result ≡ record { server = server; intervals = [] } }
     {
-        ServerNumbers { server, intervals }
+        ServerNumbers {
+            server,
+            ends: BTreeMap::new(alloc),
+        }
+    }
+
+    /// The same server and intervals.
+    fn of(alloc: Global, set: &ServerSet) -> Result<ServerNumbers, Memory>
+        requires { AreMerged 0 set.now.intervals }
+        ensures { IfOk result (λ it. it ≡ set.now) }
+    {
+        let ends = intervals::filled(alloc, set.intervals.as_slice())?;
+        Ok(ServerNumbers {
+            server: set.server,
+            ends,
+        })
     }
 
     pub(crate) fn server(&self) -> u128
@@ -40,19 +59,26 @@ impl ServerNumbers {
         self.server
     }
 
-    pub(crate) fn intervals(&self) -> &[Interval]
-        ensures { result.now ≡ self.now.intervals }
+    pub(crate) fn ends(&self) -> &Ends
+        ensures { intervals result.now.entries ≡ self.now.intervals }
     {
-        self.intervals.as_slice()
+        &self.ends
+    }
+
+    fn is_empty(&self) -> bool
+        ensures { result ≡ (length self.now.intervals == 0) }
+    {
+        self.ends.is_empty()
     }
 
     fn add_range(&mut self, range: Interval) -> Result<(), Memory>
         requires merged { AreMerged 0 self.old.intervals }
         requires from_one { 1 ≤ range.first }
+        requires some { range.first ≤ range.last }
         ensures ok { OnOk result (self.new ≡ record { server = self.old.server; intervals = with_range range.first range.last self.old.intervals }) }
         ensures err { OnErr result (self.new ≡ self.old) }
     {
-        intervals::add_range(&mut self.intervals, range)?;
+        intervals::add_range(&mut self.ends, range)?;
         Ok(())
     }
 
@@ -61,17 +87,16 @@ impl ServerNumbers {
         ensures ok { OnOk result (self.new ≡ record { server = self.old.server; intervals = without number self.old.intervals }) }
         ensures err { OnErr result (self.new ≡ self.old) }
     {
-        intervals::remove_number(&mut self.intervals, number)?;
+        intervals::remove_number(&mut self.ends, number)?;
         Ok(())
     }
 }
 
 impl Duplicate for ServerNumbers {
-    fn copy(&self, alloc: Global) -> Result<ServerNumbers, Memory> {
-        let intervals = Vec::from_slice(alloc, self.intervals.as_slice())?;
+    fn copy(&self, _alloc: Global) -> Result<ServerNumbers, Memory> {
         Ok(ServerNumbers {
             server: self.server,
-            intervals,
+            ends: self.ends.clone()?,
         })
     }
 }
@@ -87,7 +112,7 @@ fn follows(before: Option<u128>, server: u128) -> bool
 }
 
 /// Whether a server may follow `before`, and has intervals as in a canonical set.
-fn is_whole(before: Option<u128>, set: &ServerNumbers) -> bool
+fn is_whole(before: Option<u128>, set: &ServerSet) -> bool
     ensures { result ≡ reading.is_whole (reading.floor before) set.now }
 {
     if set.intervals.is_empty() || !follows(before, set.server) {
@@ -97,7 +122,7 @@ fn is_whole(before: Option<u128>, set: &ServerNumbers) -> bool
 }
 
 /// Whether these are the servers of a canonical set.
-pub(crate) fn are_canonical(servers: &[ServerNumbers]) -> bool
+pub(crate) fn are_canonical(servers: &[ServerSet]) -> bool
     ensures { result ≡ reading.are_canonical 0 servers.now }
 {
     let mut before = None;
@@ -105,9 +130,21 @@ pub(crate) fn are_canonical(servers: &[ServerNumbers]) -> bool
         if !is_whole(before, set) {
             return false;
         }
-        before = Some(set.server());
+        before = Some(set.server);
     }
     true
+}
+
+/// The same servers and intervals.
+pub(crate) fn kept(alloc: Global, sets: &[ServerSet]) -> Result<Vec<ServerNumbers>, Memory>
+    requires { IsCanonical sets.now }
+    ensures { IfOk result (λ it. it.items ≡ sets.now) }
+{
+    let mut servers = Vec::new(alloc);
+    for set in sets {
+        servers.push(ServerNumbers::of(alloc, set)?)?;
+    }
+    Ok(servers)
 }
 
 /// How many servers at the front come before this one.
@@ -134,15 +171,25 @@ fn is_at(servers: &[ServerNumbers], at: usize, server: u128) -> bool
     }
 }
 
-/// The intervals of a server; none if it has no number.
-pub(crate) fn intervals_of(servers: &[ServerNumbers], server: u128) -> &[Interval]
-    ensures { result.now ≡ spec.intervals_of server servers.now }
+/// The numbers of a server; None if it has none.
+pub(crate) fn numbers_of(servers: &[ServerNumbers], server: u128) -> Option<&ServerNumbers>
+    ensures { spec.intervals_of server servers.now ≡ spec.intervals_in (option_copied result) }
 {
     let at = place_of(servers, server);
     if is_at(servers, at, server) {
-        servers[at].intervals()
+        Some(&servers[at])
     } else {
-        &[]
+        None
+    }
+}
+
+/// The greatest number of a server; 0 if it has none.
+pub(crate) fn greatest_of(servers: &[ServerNumbers], server: u128) -> u64
+    ensures { result ≡ end_behind 0 (spec.intervals_of server servers.now) }
+{
+    match numbers_of(servers, server) {
+        Some(set) => intervals::greatest(set.ends()),
+        None => 0,
     }
 }
 
@@ -155,6 +202,7 @@ pub(crate) fn put_range(
 ) -> Result<(), Memory>
     requires canonical { IsCanonical servers.old.items }
     requires from_one { 1 ≤ range.first }
+    requires some { range.first ≤ range.last }
     ensures ok { OnOk result (servers.new.items ≡ spec.range_in server range servers.old.items) }
     ensures err { OnErr result (servers.new.items ≡ servers.old.items) }
 {
@@ -162,27 +210,31 @@ pub(crate) fn put_range(
     if is_at(servers.as_slice(), at, server) {
         servers[at].add_range(range)
     } else {
-        let mut intervals = Vec::new(alloc);
-        intervals.push(range)?;
-        servers.insert(at, ServerNumbers::new(server, intervals))?;
+        let mut set = ServerNumbers::new(alloc, server);
+        set.add_range(range)?;
+        servers.insert(at, set)?;
         Ok(())
     }
 }
 
-/// Puts ranges of a server's numbers in, one after the other.
-fn put_ranges(
+/// Puts the numbers of a server in, one interval after the other.
+fn put_set(
     alloc: Global,
     servers: &mut Vec<ServerNumbers>,
-    server: u128,
-    ranges: &[Interval],
+    set: &ServerNumbers,
 ) -> Result<(), Memory>
     requires canonical { IsCanonical servers.old.items }
-    requires merged { AreMerged 0 ranges.now }
-    ensures ok { OnOk result (servers.new.items ≡ spec.ranges_in server ranges.now servers.old.items) }
+    requires merged { AreMerged 0 set.now.intervals }
+    ensures ok { OnOk result (servers.new.items ≡ spec.ranges_in set.now.server set.now.intervals servers.old.items) }
     ensures canonical { IsCanonical servers.new.items }
 {
-    for range in ranges {
-        put_range(alloc, servers, server, *range)?;
+    let server = set.server();
+    for (first, last) in set.ends() {
+        let range = Interval {
+            first: *first,
+            last: *last,
+        };
+        put_range(alloc, servers, server, range)?;
     }
     Ok(())
 }
@@ -198,7 +250,7 @@ pub(crate) fn put_sets(
     ensures { OnOk result (servers.new.items ≡ spec.sets_in sets.now servers.old.items) }
 {
     for set in sets {
-        put_ranges(alloc, servers, set.server(), set.intervals())?;
+        put_set(alloc, servers, set)?;
     }
     Ok(())
 }
@@ -218,7 +270,7 @@ pub(crate) fn take_number(
         return Ok(());
     }
     servers[at].remove_number(number)?;
-    if servers[at].intervals().is_empty() {
+    if servers[at].is_empty() {
         servers.remove(at);
         Ok(())
     } else {

@@ -4,11 +4,12 @@ ghost use Rattle.gtid_set.specs.Canonical.{IsCanonical};
 ghost use Rattle.gtid_set.specs.Members.{HasAlso, HasAllBut, HasBoth};
 ghost use Rattle.gtid_set.specs.Next.{next_in};
 
-use crate::intervals::{greatest, have};
+use crate::intervals::have;
 use crate::servers::{
-    ServerNumbers, are_canonical, copies, intervals_of, put_range, put_sets, take_number,
+    ServerNumbers, are_canonical, copies, greatest_of, kept, numbers_of, put_range, put_sets,
+    take_number,
 };
-use ring_types::{Duplicate, Gtid, Interval, LAST_GTID, Memory};
+use ring_types::{Duplicate, Gtid, Interval, LAST_GTID, Memory, ServerSet};
 use std::alloc::Global;
 use std::marker::Model;
 use thiserror::Error;
@@ -50,14 +51,15 @@ impl GtidSet {
     }
 
     /// The set of these servers; None if they are not those of a canonical set.
-    pub(crate) fn of(alloc: Global, servers: Vec<ServerNumbers>) -> Option<GtidSet>
-        ensures value { MatchOption result (IsCanonical servers.items → ⊥) (λ it. it ≡ servers.items) }
-        ensures canonical { IfSome result (λ it. IsCanonical it) }
+    pub(crate) fn of(alloc: Global, servers: &[ServerSet]) -> Result<Option<GtidSet>, Memory>
+        ensures value { IfOk result (λ it. MatchOption it (IsCanonical servers.now → ⊥) (λ set. set ≡ servers.now)) }
+        ensures canonical { IfOk result (λ it. IfSome it (λ set. IsCanonical set)) }
     {
-        if are_canonical(servers.as_slice()) {
-            Some(GtidSet { alloc, servers })
+        if are_canonical(servers) {
+            let servers = kept(alloc, servers)?;
+            Ok(Some(GtidSet { alloc, servers }))
         } else {
-            None
+            Ok(None)
         }
     }
 
@@ -73,10 +75,10 @@ impl GtidSet {
     pub fn contains(&self, gtid: Gtid) -> bool
         ensures { result ≡ has self.now gtid.server gtid.number }
     {
-        have(
-            intervals_of(self.servers.as_slice(), gtid.server),
-            gtid.number,
-        )
+        match numbers_of(self.servers.as_slice(), gtid.server) {
+            Some(set) => have(set.ends(), gtid.number),
+            None => false,
+        }
     }
 
     /// The number after the server's greatest, 1 if it has none. Takes no memory.
@@ -84,7 +86,7 @@ impl GtidSet {
         ensures ok { IfOk result (λ it. next_in server self.now ≡ Some it) }
         ensures err { OnErr result (next_in server self.now ≡ None) }
     {
-        let greatest = greatest(intervals_of(self.servers.as_slice(), server));
+        let greatest = greatest_of(self.servers.as_slice(), server);
         if greatest < LAST_GTID {
             Ok(greatest + 1)
         } else {

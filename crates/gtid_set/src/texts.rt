@@ -9,7 +9,7 @@ use crate::faults::SetError;
 use crate::servers::ServerNumbers;
 use crate::sets::GtidSet;
 use itoa::Buffer;
-use ring_types::{Interval, Memory, Text};
+use ring_types::{Interval, List, Memory, ServerSet, Text};
 use std::alloc::Global;
 use uuid::Uuid;
 
@@ -38,8 +38,8 @@ fn put_number(out: &mut String, number: u64) -> Result<(), Memory>
     put(out, buffer.format(number))
 }
 
-fn put_interval(out: &mut String, interval: &Interval) -> Result<(), Memory>
-    ensures { OnOk result (string_bytes out.new ≡ string_bytes out.old ++ spec.interval_text interval.now) }
+fn put_interval(out: &mut String, interval: Interval) -> Result<(), Memory>
+    ensures { OnOk result (string_bytes out.new ≡ string_bytes out.old ++ spec.interval_text interval) }
 {
     put(out, ":")?;
     put_number(out, interval.first)?;
@@ -54,7 +54,11 @@ fn put_server(out: &mut String, set: &ServerNumbers) -> Result<(), Memory>
     ensures { OnOk result (string_bytes out.new ≡ string_bytes out.old ++ spec.server_text set.now) }
 {
     put_uuid(out, set.server())?;
-    for interval in set.intervals() {
+    for (first, last) in set.ends() {
+        let interval = Interval {
+            first: *first,
+            last: *last,
+        };
         put_interval(out, interval)?;
     }
     Ok(())
@@ -165,16 +169,19 @@ fn intervals_in(alloc: Global, bytes: Option<&[u8]>) -> Result<Vec<Interval>, Me
     Ok(found)
 }
 
-fn server_in(alloc: Global, piece: &[u8]) -> Result<ServerNumbers, Memory>
+fn server_in(alloc: Global, piece: &[u8]) -> Result<ServerSet, Memory>
     ensures { IfOk result (λ it. it ≡ reading.server_in piece.now) }
 {
     let (uuid, rest) = next_piece(piece, b':');
-    let intervals = intervals_in(alloc, rest)?;
-    Ok(ServerNumbers::new(uuid_in(uuid), intervals))
+    let intervals = List::from_vec(intervals_in(alloc, rest)?);
+    Ok(ServerSet {
+        server: uuid_in(uuid),
+        intervals,
+    })
 }
 
 /// The servers that the text names, in whatever order and with whatever intervals.
-fn set_in(alloc: Global, bytes: &[u8]) -> Result<Vec<ServerNumbers>, Memory>
+fn set_in(alloc: Global, bytes: &[u8]) -> Result<Vec<ServerSet>, Memory>
     ensures { IfOk result (λ it. it.items ≡ reading.set_in bytes.now) }
 {
     let mut found = Vec::new(alloc);
@@ -195,7 +202,7 @@ fn read_set(alloc: Global, text: &[u8]) -> Result<Option<GtidSet>, Memory>
     ensures { IfOk result (λ it. IsSpelled spec.set_text text.now it) }
 {
     let servers = set_in(alloc, text)?;
-    let Some(set) = GtidSet::of(alloc, servers) else {
+    let Some(set) = GtidSet::of(alloc, servers.as_slice())? else {
         return Ok(None);
     };
     let again = set.to_text(alloc)?;

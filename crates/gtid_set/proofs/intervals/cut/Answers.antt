@@ -1,18 +1,24 @@
-use Rattle.std.proofs.Common.{◌<◌, length, arith}
-use Rattle.gtid_set.proofs.Places.{cut_middle, cut_end, cut_begin}
+use Rattle.std.proofs.Common.{◌≡◌, ◌∙◌, ap, refl, true, false, nat_lt, arith}
+use Rattle.std.proofs.lemmas.Bool.Decides.{nat_tests}
+use Rattle.gtid_set.specs.Ranges.{intervals, ended_before}
+use Rattle.gtid_set.proofs.Entries.{ended_is, number_cut}
 use Rattle.gtid_set.proofs.intervals.cut.Goals as goal
 
 pub returns-in_ok-insert-clause-ok : goal.returns-in_ok-insert-clause-ok
 returns-in_ok-insert-clause-ok c =
-    let lt : c.args.at < length c.args.intervals.now.items = omega (arith, c.args.intervals.now.ok, c.requires) in
-    rw c.in_ok-insert.ensures.items (cut_middle c.args.number c.args.at c.index.result.now c.args.intervals.now.items lt c.index.ensures c.if-first-number.true c.if-number-last.true)
+    let x = c.args.interval in
+    let n = c.args.number in
+    let es = c.args.ends.now.entries in
+    let above : nat_lt n x.last ≡ true = grind (arith, nat_tests, c.if-number-interval.true) in
+    ap intervals
+    (c.end_before.ensures ∙ ap (ended_before x.first n) c.in_ok-insert.ensures.entries ∙ ended_is n (x.first, x.last) true (nat_lt x.first n) es refl)
+    ∙ number_cut 0 n x true (nat_lt x.first n) es above refl c.requires.merged c.requires.begun c.requires.ends
 
-pub returns-else-number-last-clause-ok : goal.returns-else-number-last-clause-ok
-returns-else-number-last-clause-ok c =
-    let lt : c.args.at < length c.args.intervals.now.items = omega (arith, c.args.intervals.now.ok, c.requires) in
-    cut_end c.args.number c.args.at c.index.result.now c.args.intervals.now.items lt c.index.ensures c.if-first-number.true c.if-number-last.false
-
-pub returns-then-number-last-2-clause-ok : goal.returns-then-number-last-2-clause-ok
-returns-then-number-last-2-clause-ok c =
-    let lt : c.args.at < length c.args.intervals.now.items = omega (arith, c.args.intervals.now.ok, c.requires) in
-    cut_begin c.args.number c.args.at c.index.result.now c.args.intervals.now.items lt c.index.ensures c.if-number-first.false c.if-first-number.false c.if-number-last-2.true
+pub returns-else-number-interval-clause-ok : goal.returns-else-number-interval-clause-ok
+returns-else-number-interval-clause-ok c =
+    let x = c.args.interval in
+    let n = c.args.number in
+    let es = c.args.ends.now.entries in
+    let above : nat_lt n x.last ≡ false = grind (arith, nat_tests, c.if-number-interval.false) in
+    ap intervals (c.end_before-else-number-interval.ensures ∙ ended_is n (x.first, x.last) false (nat_lt x.first n) es refl)
+    ∙ number_cut 0 n x false (nat_lt x.first n) es above refl c.requires.merged c.requires.begun c.requires.ends

@@ -1,6 +1,5 @@
-use Rattle.std.proofs.Common.{arith}
-use Rattle.gtid_set.proofs.Looking.{last_end}
+use Rattle.gtid_set.proofs.Begun.{last_end}
 use Rattle.gtid_set.proofs.intervals.greatest.Goals as goal
 
-pub returns-in-len1-up : goal.returns-in-len1-up
-returns-in-len1-up c = last_end (record { first = 0; last = 0 }) c.args.intervals.now (omega (arith, c.in-len1-up.len_at_least))
+pub returns-in-Some : goal.returns-in-Some
+returns-in-Some c = last_end 0 c.args.ends.now.entries (c.in-Some.field-0-0.now, c.in-Some.last.now) c.in-Some.ensures.last

@@ -1,8 +1,10 @@
-use Rattle.gtid_set.proofs.Places.{have_there, have_none}
+use Rattle.std.proofs.Common.{◌∙◌, ap}
+use Rattle.gtid_set.specs.Ranges.{intervals}
+use Rattle.gtid_set.proofs.Begun.{reaches, have_is}
 use Rattle.gtid_set.proofs.intervals.have.Goals as goal
 
-pub returns-then-at-intervals : goal.returns-then-at-intervals
-returns-then-at-intervals c = have_there _ _ _ _ c.requires c.ending_before-at.ensures c.if-at-intervals.true
+pub returns-in-Some : goal.returns-in-Some
+returns-in-Some c = ap (reaches c.args.number) c.in-Some.ensures ∙ have_is 0 c.args.number (intervals c.args.ends.now.entries) c.requires
 
-pub returns-else-at-intervals : goal.returns-else-at-intervals
-returns-else-at-intervals c = have_none _ _ _ c.requires c.ending_before-at.ensures c.if-at-intervals.false
+pub returns-in-None : goal.returns-in-None
+returns-in-None c = ap (reaches c.args.number) c.in-None.ensures ∙ have_is 0 c.args.number (intervals c.args.ends.now.entries) c.requires

@@ -1,12 +1,16 @@
-use Rattle.std.proofs.Common.{◌≤◌, ◌∙◌, length, arith}
-use Rattle.std.proofs.lemmas.Result.{on_ok_weaker}
-use Rattle.gtid_set.proofs.Places.{without_none, without_here}
+use Rattle.std.proofs.Common.{◌≡◌, ◌∙◌, sym, ap, refl, false, nat_le, arith}
+use Rattle.std.proofs.lemmas.Bool.Decides.{nat_tests}
+use Rattle.gtid_set.specs.Ranges.{intervals}
+use Rattle.gtid_set.proofs.Begun.{reaches}
+use Rattle.gtid_set.proofs.Entries.{number_absent}
 use Rattle.gtid_set.proofs.intervals.remove_number.Goals as goal
 
-pub returns-then-at-len-clause-ok : goal.returns-then-at-len-clause-ok
-returns-then-at-len-clause-ok c = on_ok_weaker c.cut.result (λ e. e ∙ without_here c.args.number c.ending_before-at.result c.args.intervals.now.items (rw c.as_slice.ensures.value at c.ending_before-at.ensures)) c.cut.ensures.ok
+pub returns-in_default-clause-ok : goal.returns-in_default-clause-ok
+returns-in_default-clause-ok c =
+    let out : nat_le c.args.number c.in-Some.interval.last ≡ false = grind (arith, nat_tests, c.if-number-interval.false) in
+    sym (number_absent 0 c.args.number (intervals c.args.ends.now.entries) c.requires (sym (ap (reaches c.args.number) c.in-Some.ensures) ∙ out))
 
-pub returns-else-at-len-clause-ok : goal.returns-else-at-len-clause-ok
-returns-else-at-len-clause-ok c =
-    let le : length c.args.intervals.now.items ≤ c.ending_before-at.result = omega (arith, c.args.intervals.now.ok, c.if-at-len.false) in
-    without_none c.args.number c.ending_before-at.result c.args.intervals.now.items (rw c.as_slice.ensures.value at c.ending_before-at.ensures) le
+pub returns-in_default-2-clause-ok : goal.returns-in_default-2-clause-ok
+returns-in_default-2-clause-ok c =
+    let none = sym c.begun_by.ensures ∙ c.in_default.is in
+    sym (number_absent 0 c.args.number (intervals c.args.ends.now.entries) c.requires (ap (reaches c.args.number) none))

@@ -1,14 +1,15 @@
--- the range with what it has taken in, before what is left, is the same
-use Rattle.std.proofs.Common.{◌≡◌, ◌+◌, ◌<◌, take, drop, vec_len}
-use Rattle.gtid_set.specs.Ranges.{swallowed}
+-- the interval grows to the same whatever it has taken in already
+use Rattle.std.proofs.Common.{◌≡◌, length}
+use Rattle.std.specs.BTreeMap.{IsOrdered}
+use Rattle.std.specs.Ordering.{nat_cmp}
+use Rattle.gtid_set.specs.Ranges.{intervals, grown}
 use Rattle.gtid_set.proofs.intervals.swallow.Given as goal
 
-abbrev pub invariant-loop-intervals : goal.invariant-loop-intervals
-invariant-loop-intervals l = record {
-  before : take l.at l.intervals.items ≡ take l.at l.initial.intervals.items;
-  within : l.at < vec_len l.intervals;
-  behind : swallowed l.range.first l.last (drop (l.at + 1) l.intervals.items) ≡ swallowed l.range.first l.range.last (drop (l.at + 1) l.initial.intervals.items);
+abbrev pub invariant-loop-next : goal.invariant-loop-next
+invariant-loop-next l = record {
+  same : grown l.first (intervals l.ends.entries) ≡ grown l.first (intervals l.initial.ends.entries);
+  ordered : IsOrdered nat_cmp l.ends;
 }
 
-abbrev pub decreases-loop-intervals : goal.decreases-loop-intervals
-decreases-loop-intervals l = vec_len l.intervals
+abbrev pub decreases-loop-next : goal.decreases-loop-next
+decreases-loop-next l = length l.ends.entries

@@ -4,6 +4,7 @@ use Rattle.std.specs.Prelude.{slice_set}
 use Rattle.std.proofs.lemmas.Result.{on_ok_weaker}
 use Rattle.ring_types.specs.declared.gtid_sets.Interval.{Interval}
 use Rattle.ring_types.specs.declared.gtid_sets.ServerSet.{ServerSet}
+use Rattle.gtid_set.specs.Ranges.{with_range}
 use Rattle.gtid_set.proofs.ServerPlaces.{below_within, canonical_read, put_known, put_new}
 use Rattle.gtid_set.proofs.servers.put_range.Goals as goal
 
@@ -33,7 +34,7 @@ returns-in_ok-insert-clause-ok c =
     let e = rw c.as_slice.ensures.value at c.place_of-at.ensures in
     let h = rw c.as_slice-2.ensures.value at c.if-is_at.ensures.told in
     let xs = c.args.servers.now.items in
-    let one : c.push.new.self.items ≡ c.args.range ∷ [] = c.in_ok-push.ensures.items ∙ ap (λ (l : List Interval). l ++ c.args.range ∷ []) c.new-intervals.ensures.items in
     c.in_ok-insert.ensures.items
-    ∙ ap (λ (y : ServerSet). insert xs c.place_of-at.result y) (c.new.ensures ∙ ap (λ (l : List Interval). record { server = c.args.server; intervals = l }) one)
+    ∙ ap (λ (y : ServerSet). insert xs c.place_of-at.result y)
+    (c.in_ok-add_range.ensures.ok ∙ ap (λ (s : ServerSet). record { server = s.server; intervals = with_range c.args.range.first c.args.range.last s.intervals }) c.new-set.ensures)
     ∙ put_new c.args.server c.place_of-at.result c.args.range xs e (sym h)
