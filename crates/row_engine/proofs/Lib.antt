@@ -1,0 +1,8 @@
+-- keys, and a map's entries against the definitions' rows
+pub mod Keys
+pub mod Entries
+-- which change decides a row
+pub mod RowAfter
+pub mod Decided
+pub mod Checked
+pub mod OfLog
