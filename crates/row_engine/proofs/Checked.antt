@@ -1,5 +1,6 @@
 -- The definitions walk the changes from the front, so what the first of them make of the tables is where the check of the others begins.
 use Rattle.std.proofs.Common.{◌≡◌, ◌∙◌, ℕ, zero, suc, ◌+◌, ◌<◌, Bool, List, [], ◌∷◌, ◌++◌, Option, true, false, cond, length, get_or, take, drop, refl, ap, sym, arith}
+use native.Mathlib.Numerals.{unary_clauses}
 use Rattle.std.proofs.lemmas.Option.{unwrap_or-slice_get}
 use Rattle.std.specs.Option.{option_map_or}
 use Rattle.std.specs.Prelude.{None, Some, is_some, slice_get}
@@ -26,7 +27,8 @@ pub accepted_more : (schema : Schema) (tables : Tables) (changes : List Change) 
     → check schema (all_changed schema tables (take i changes)) (drop i changes) ≡ check schema (all_changed schema tables (take (i + 1) changes)) (drop (i + 1) changes)
 accepted_more schema tables [] i c within h = absurd (omega arith)
 accepted_more schema tables (d ∷ changes) zero c within h = rw (h, check) refl
-accepted_more schema tables (d ∷ changes) (suc i) c within h = accepted_more schema (changed schema tables d) changes i c (omega arith) h
+accepted_more schema tables (d ∷ changes) (suc i) c within h =
+    let rest = accepted_more schema (changed schema tables d) changes i c (omega arith) h in simp unary_clauses (simp unary_clauses at rest)
 
 pub refused_here : (schema : Schema) (tables : Tables) (changes : List Change) (i : ℕ) (c : Change) (r : RowRefusal) → i < length changes
     → refusal_of schema (all_changed schema tables (take i changes)) (get_or changes i c) ≡ Some r → check schema (all_changed schema tables (take i changes)) (drop i changes) ≡ Some r

@@ -1,7 +1,7 @@
 -- A change reaches the table of its name alone, so of many the last that names a table and a key decides the row there.
 use Rattle.std.proofs.Common.{◌≡◌, ◌∙◌, ℕ, ◌<◌, Bool, List, [], ◌∷◌, ◌++◌, Option, true, false, cond, length, refl, ap, sym, arith}
 use Rattle.std.proofs.lemmas.Bool.{cases_eq}
-use Rattle.std.proofs.lemmas.List.{get_or-set_other, get_or-set_same, length-set, reverse-append}
+use Rattle.std.proofs.lemmas.List.{get_or-set_other, get_or_default, get_or-set_same, length-set, reverse-append}
 use Rattle.std.proofs.lemmas.List.Folds.{find-append}
 use Rattle.std.proofs.lemmas.List.Quantifiers.{position-Some}
 use Rattle.std.proofs.lemmas.Option.{unwrap_or-slice_get}
@@ -29,6 +29,10 @@ one_name schema m n place h k =
     let other = (position-Some (λ (t : Table). bytes_eq t.name n) schema.tables place no_table k).1 in
     let t = get_or schema.tables place no_table in
     sym ((bytes_eq-Decides t.name m).0 first) ∙ (bytes_eq-Decides t.name n).0 other
+
+-- the rows that are read at a place within
+pub rows_read : (tables : Tables) (place : ℕ) (rows : Rows) → place < length tables → rows ≡ get_or tables place rows → rows ≡ rows_at tables place
+rows_read tables place rows h is = is ∙ get_or_default tables place rows [] h ∙ sym (unwrap_or-slice_get tables place [])
 
 rows_set_here : (tables : Tables) (place : ℕ) (rows : Rows) → place < length tables → rows_at (slice_set tables place rows) place ≡ rows
 rows_set_here tables place rows h = unwrap_or-slice_get (slice_set tables place rows) place [] ∙ get_or-set_same tables place rows [] h

@@ -1,7 +1,8 @@
 -- A map's entries ascend by their keys, and each is a row under its key: so a walk that stops at the place of a key meets what a walk over all rows meets.
-use Rattle.std.proofs.Common.{◌≡◌, ◌∙◌, Bool, List, [], ◌∷◌, ◌++◌, Ordering, true, false, cond, not, refl, ap, sym}
+use Rattle.std.proofs.Common.{◌≡◌, ◌∙◌, Bool, List, [], ◌∷◌, ◌++◌, Ordering, true, false, cond, not, refl, ap, subst, sym}
 use Rattle.std.proofs.lemmas.Cmp.{eq_by_cmp_equiv}
-use Rattle.std.proofs.lemmas.Map.{NonePasses}
+use Rattle.std.proofs.lemmas.List.{append_assoc}
+use Rattle.std.proofs.lemmas.Map.{NonePasses, none_passes_from_lookup}
 use Rattle.std.proofs.lemmas.Map.Entries.{none_below_head, none_past_head}
 use Rattle.std.proofs.lemmas.Map.Keys.{IsDistinct-from_sorted, sorted_head, sorted_tail}
 use Rattle.std.specs.BTreeMap.{insert_entry, is_at}
@@ -11,7 +12,7 @@ use Rattle.std.specs.List.Sorted.{IsStrictlySortedBy}
 use Rattle.std.specs.Map.{keys_of, lookup, remove_entry, values_of}
 use Rattle.std.specs.Ordering.{is_eq, is_lt, match_ordering}
 use Rattle.std.specs.declared.cmp.Ordering.TheVariants.{Less, Equal, Greater}
-use Rattle.std.specs.Prelude.{Some, if◌then◌else◌}
+use Rattle.std.specs.Prelude.{None}
 use Rattle.ring_types.specs.Rows.{comes_before, key_of, placed, row_of, same_value, with_row, without_key}
 use Rattle.ring_types.specs.declared.values.Value.{Value}
 use Rattle.row_engine.specs.Keyed.{IsKeyed}
@@ -69,18 +70,24 @@ module _ (R : Value → Value → Ordering) (o : IsTotalOrder R) (g : Agrees R) 
         let b : comes_before (key_of row) (key_of e.1) ≡ false = sym (g.before (key_of row) (key_of e.1)) ∙ ap is_lt (ap (R (key_of row)) (sym h.0) ∙ x) in
         rw t (rw b (ap (λ (rows : List (List Value)). e.1 ∷ rows) rest))
 
-  pub removed : (es : List (Value × List Value)) (key : Value) → IsStrictlySortedBy R (keys_of es) → IsKeyed es → values_of (remove_entry (is_at (R key)) es) ≡ without_key (values_of es) key
-  removed [] key s h = refl
-  removed (e ∷ es) key s h = go (is_eq (R key e.0)) refl (removed es key (sorted_tail R e.0 (keys_of es) s) h.1)
+  -- `none`: the map says that it has no entry of the key left
+  pub removed : (es : List (Value × List Value)) (key : Value) → lookup (is_at (R key)) (remove_entry (is_at (R key)) es) ≡ None → IsKeyed es
+      → values_of (remove_entry (is_at (R key)) es) ≡ without_key (values_of es) key
+  removed [] key none h = refl
+  removed (e ∷ es) key none h = go (is_eq (R key e.0)) refl none (λ x. removed es key x h.1)
     where
-      go : (b : Bool) → is_eq (R key e.0) ≡ b → values_of (remove_entry (is_at (R key)) es) ≡ without_key (values_of es) key
-          → values_of (cond b es (e ∷ remove_entry (is_at (R key)) es)) ≡ without_key (e.1 ∷ values_of es) key
-      go true x rest =
+      left : List (Value × List Value)
+      left = remove_entry (is_at (R key)) es
+
+      go : (b : Bool) → is_eq (R key e.0) ≡ b → lookup (is_at (R key)) (cond b es (e ∷ left)) ≡ None → (lookup (is_at (R key)) left ≡ None → values_of left ≡ without_key (values_of es) key)
+          → values_of (cond b es (e ∷ left)) ≡ without_key (e.1 ∷ values_of es) key
+      go true x none rest =
         let t : same_value (key_of e.1) key ≡ true = sym (tested key e.0 e.1 h.0) ∙ x in
-        rw t (sym (none_gone es key (past key e es s x) h.1))
-      go false x rest =
+        rw t (sym (none_gone es key (none_passes_from_lookup (is_at (R key)) es none) h.1))
+      go false x none rest =
         let t : same_value (key_of e.1) key ≡ false = sym (tested key e.0 e.1 h.0) ∙ x in
-        rw t (ap (λ (rows : List (List Value)). e.1 ∷ rows) rest)
+        let gone : lookup (is_at (R key)) left ≡ None = rw x at none in
+        rw t (ap (λ (rows : List (List Value)). e.1 ∷ rows) (rest gone))
 
   pub keyed_inserted : (es : List (Value × List Value)) (row : List Value) → IsKeyed es → IsKeyed (insert_entry R es (key_of row) row)
   keyed_inserted [] row h = (refl, tt)
@@ -111,3 +118,11 @@ module _ (R : Value → Value → Ordering) (o : IsTotalOrder R) (g : Agrees R) 
     let below : R f.0 e.0 ≡ Less = in_middle (λ y. R f.0 y ≡ Less) front e rest (sorted_head R f.0 (keys_of (front ++ e ∷ rest)) s) in
     let above : R e.0 f.0 ≡ Greater = rw (o.antisymm e.0 f.0, below) refl in
     rw above (ap (λ (es : List (Value × List Value)). f ∷ es) (at_end front e rest (sorted_tail R f.0 (keys_of (front ++ e ∷ rest)) s)))
+
+  -- one more entry of a copy
+  pub copied_more : (all front left rest new : List (Value × List Value)) (e : Value × List Value) → IsStrictlySortedBy R (keys_of all) → front ++ left ≡ all → left ≡ e ∷ rest → new ≡ insert_entry R front e.0 e.1
+      → new ++ rest ≡ all
+  copied_more all front left rest new e s whole step made =
+    let split : front ++ e ∷ rest ≡ all = ap (λ (es : List (Value × List Value)). front ++ es) (sym step) ∙ whole in
+    let sorted : IsStrictlySortedBy R (keys_of (front ++ e ∷ rest)) = subst (λ (es : List (Value × List Value)). IsStrictlySortedBy R (keys_of es)) (sym split) s in
+    ap (λ (es : List (Value × List Value)). es ++ rest) (made ∙ at_end front e rest sorted) ∙ append_assoc front (e ∷ []) rest ∙ split

@@ -2,7 +2,7 @@ ghost use Rattle.std.specs.Prelude.{◌≡◌, [], IfOk, OnOk};
 ghost use Rattle.std.specs.Option.{option_copied};
 ghost use Rattle.ring_types.specs.Rows as spec;
 
-use ring_types::{Duplicate, List, Memory, Value};
+use ring_types::{Change, Duplicate, List, Memory, Value};
 use std::alloc::Global;
 use std::collections::BTreeMap;
 use std::marker::Model;
@@ -43,6 +43,7 @@ impl TableRows {
     }
 
     /// Whether there is a row with this key.
+    #[tactic(auto, using(crate::proofs::RowAfter::has_row))]
     pub fn has_key(&self, key: &Value) -> bool
         ensures { result ≡ spec.has_key self.now key.now }
     {
@@ -50,7 +51,7 @@ impl TableRows {
     }
 
     /// Puts a row in its place, where it replaces the row with its key.
-    pub fn put(&mut self, alloc: Global, row: List<Value>) -> Result<(), Memory>
+    fn put(&mut self, alloc: Global, row: List<Value>) -> Result<(), Memory>
         ensures { OnOk result (self.new ≡ spec.with_row self.old row) }
     {
         let key = copied_key(alloc, row.as_slice())?;
@@ -59,10 +60,24 @@ impl TableRows {
     }
 
     /// Takes away the row with this key, if there is one. Takes no memory.
-    pub fn take(&mut self, key: &Value)
+    fn take(&mut self, key: &Value)
         ensures { self.new ≡ spec.without_key self.old key.now }
     {
         self.by_key.remove(key);
+    }
+
+    /// Makes a change of this table. Without memory the rows stay.
+    pub fn change(&mut self, alloc: Global, change: &Change) -> Result<(), Memory>
+        ensures { OnOk result (self.new ≡ spec.rows_after self.old change.now) }
+    {
+        match change {
+            Change::Insert { row, .. } => self.put(alloc, row.copy(alloc)?),
+            Change::Update { row, .. } => self.put(alloc, row.copy(alloc)?),
+            Change::Delete { key, .. } => {
+                self.take(key);
+                Ok(())
+            }
+        }
     }
 
     /// Copies of the rows, in key order.
@@ -90,7 +105,7 @@ fn copied_key(alloc: Global, row: &[Value]) -> Result<Value, Memory>
 impl Duplicate for TableRows {
     fn copy(&self, alloc: Global) -> Result<TableRows, Memory> {
         let mut by_key = BTreeMap::new(alloc);
-        for (key, row) in &self.by_key {
+        for (key, row) in self.by_key.iter() {
             by_key.insert(key.copy(alloc)?, row.copy(alloc)?)?;
         }
         Ok(TableRows { by_key })

@@ -115,6 +115,7 @@ impl Tables {
     }
 
     /// Why the change is refused after the earlier ones, if it is.
+    #[tactic(auto, using(crate::proofs::Checked::key_decides, crate::proofs::Decided::place_within), unfolding(ring_types::specs::Rows::refusal_of))]
     fn refusal_after(&self, earlier: &[Change], change: &Change) -> Option<RowRefusal>
         ensures { result ≡ rows.refusal_of self.now.schema (rows.all_changed self.now.schema self.now.rows earlier.now) change.now }
     {
@@ -143,6 +144,7 @@ impl Tables {
     }
 
     /// Makes a change that was accepted.
+    #[tactic(auto, unfolding(ring_types::specs::Rows::changed))]
     fn change(&mut self, change: &Change) -> Result<(), Memory>
         ensures schema { self.new.schema ≡ self.old.schema }
         ensures rows { OnOk result (self.new.rows ≡ rows.changed self.old.schema self.old.rows change.now) }
@@ -150,16 +152,7 @@ impl Tables {
         let Some(place) = self.place(table_name(change)) else {
             return Ok(());
         };
-        let rows = &mut self.rows[place];
-        match change {
-            Change::Insert { row, .. } | Change::Update { row, .. } => {
-                rows.put(self.alloc, row.copy(self.alloc)?)
-            }
-            Change::Delete { key, .. } => {
-                rows.take(key);
-                Ok(())
-            }
-        }
+        self.rows[place].change(self.alloc, change)
     }
 
     /// Makes the changes of a transaction if none is refused, and says whether it did. Without
