@@ -66,7 +66,7 @@ impl TableRows {
         self.by_key.remove(key);
     }
 
-    /// Makes a change of this table. Without memory the rows stay.
+    /// Makes a change of this table, which takes a copy of its row.
     pub fn change(&mut self, alloc: Global, change: &Change) -> Result<(), Memory>
         ensures { OnOk result (self.new ≡ spec.rows_after self.old change.now) }
     {
@@ -80,7 +80,7 @@ impl TableRows {
         }
     }
 
-    /// Copies of the rows, in key order.
+    /// Copies of the rows.
     pub fn listed(&self, alloc: Global) -> Result<List<List<Value>>, Memory>
         ensures { IfOk result (λ it. it ≡ self.now) }
     {

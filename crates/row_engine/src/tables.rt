@@ -68,7 +68,7 @@ impl Tables {
         self.places.get(table.as_str()).copied()
     }
 
-    /// Copies of the rows of a table, in key order; none where the schema lacks the table.
+    /// Copies of the rows of the table of that name.
     pub fn rows(&self, table: &Text) -> Result<List<List<Value>>, Memory>
         ensures { IfOk result (λ it. it ≡ rows_named self.now table.now) }
     {
@@ -78,7 +78,7 @@ impl Tables {
         }
     }
 
-    /// The row of a key, lent. None where the schema lacks the table.
+    /// The row of a key in the table of that name, lent. Takes no memory.
     pub fn get(&self, table: &Text, key: &Value) -> Option<&List<Value>>
         ensures { option_copied result ≡ rows.row_of (rows_named self.now table.now) key.now }
     {
@@ -143,7 +143,7 @@ impl Tables {
         Ok(())
     }
 
-    /// Makes a change that was accepted.
+    /// Makes one change, whether it was accepted or not.
     #[tactic(auto, unfolding(ring_types::specs::Rows::changed))]
     fn change(&mut self, change: &Change) -> Result<(), Memory>
         ensures schema { self.new.schema ≡ self.old.schema }

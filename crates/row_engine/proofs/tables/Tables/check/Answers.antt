@@ -1,4 +1,4 @@
-use Rattle.std.proofs.Common.{◌≡◌, ◌∙◌, None, sym, arith, take, get_or}
+use Rattle.std.proofs.Common.{◌∙◌, ap, sym, arith, take}
 use Rattle.ring_types.specs.Rows.{all_changed, refusal_of}
 use Rattle.row_engine.proofs.Checked.{accepted_more}
 use Rattle.row_engine.proofs.tables.Tables.check.Goals as goal
@@ -10,6 +10,6 @@ loop-at-preserved c = record {
     let here = c.args.self.now in
     let changes = c.as_slice-changes.result.now in
     let d = c.index-changes-at.result in
-    let e = c.refusal_after.ensures in let n = c.in_default.not-Some in let i = c.in_default.is in let x = c.index-changes-at.is in
-    sym (accepted_more here.schema here.rows changes c.loop-at.at d (omega arith) ?) ∙ c.loop-at.invariant.same
+    let accepted = ap (refusal_of here.schema (all_changed here.schema here.rows (take c.loop-at.at changes))) (sym c.index-changes-at.is) ∙ sym c.refusal_after.ensures ∙ c.in_default.is in
+    sym (accepted_more here.schema here.rows changes c.loop-at.at d (omega arith) accepted) ∙ c.loop-at.invariant.same
 }
