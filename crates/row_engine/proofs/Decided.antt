@@ -1,6 +1,5 @@
 -- A change reaches the table of its name alone, so of many the last that names a table and a key decides the row there.
-use Rattle.std.proofs.Common.{◌≡◌, ◌∙◌, ℕ, ◌<◌, Bool, List, [], ◌∷◌, ◌++◌, Option, true, false, cond, length, refl, ap, sym, arith}
-use Rattle.std.proofs.lemmas.Bool.{cases_eq}
+use Rattle.std.proofs.Common.{◌≡◌, ◌∙◌, ℕ, ◌<◌, Bool, List, [], ◌∷◌, Option, true, false, cond, length, refl, ap, sym, arith}
 use Rattle.std.proofs.lemmas.List.{get_or-set_other, get_or_default, get_or-set_same, length-set, reverse-append}
 use Rattle.std.proofs.lemmas.List.Folds.{find-append}
 use Rattle.std.proofs.lemmas.List.Quantifiers.{position-Some}
@@ -38,7 +37,8 @@ rows_set_here : (tables : Tables) (place : ℕ) (rows : Rows) → place < length
 rows_set_here tables place rows h = unwrap_or-slice_get (slice_set tables place rows) place [] ∙ get_or-set_same tables place rows [] h
 
 rows_set_there : (tables : Tables) (place other : ℕ) (rows : Rows) → (other ≡ place → ⊥) → rows_at (slice_set tables place rows) other ≡ rows_at tables other
-rows_set_there tables place other rows h = unwrap_or-slice_get (slice_set tables place rows) other [] ∙ get_or-set_other tables place other rows [] h ∙ sym (unwrap_or-slice_get tables other [])
+rows_set_there tables place other rows h =
+    unwrap_or-slice_get (slice_set tables place rows) other [] ∙ get_or-set_other tables place other rows [] h ∙ sym (unwrap_or-slice_get tables other [])
 
 pub same_length : (schema : Schema) (tables : Tables) (c : Change) → length (changed schema tables c) ≡ length tables
 unfolding changed
@@ -48,7 +48,8 @@ same_length schema tables c = go (place_in schema (table_name c))
     go None = refl
     go (Some place) = length-set tables place (rows_after (rows_at tables place) c)
 
-row_changed : (schema : Schema) (tables : Tables) (c : Change) (name : List ℕ) (place : ℕ) (key : Value) → length tables ≡ length schema.tables → place_in schema name ≡ Some place
+row_changed : (schema : Schema) (tables : Tables) (c : Change) (name : List ℕ) (place : ℕ) (key : Value) → length tables ≡ length schema.tables
+    → place_in schema name ≡ Some place
     → row_of (rows_at (changed schema tables c) place) key ≡ cond (names name key c) (row_left c) (row_of (rows_at tables place) key)
 unfolding changed
 row_changed schema tables c name place key len at = go (bytes_eq (table_name c) name) refl (place_in schema (table_name c)) refl
@@ -62,19 +63,24 @@ row_changed schema tables c name place key len at = go (bytes_eq (table_name c) 
     go : (b : Bool) → bytes_eq (table_name c) name ≡ b → (o : Option ℕ) → place_in schema (table_name c) ≡ o
         → row_of (After o) key ≡ cond (b && same_value (change_key c) key) (row_left c) (row_of (rows_at tables place) key)
     go true x o y =
-      let here : o ≡ Some place = sym y ∙ ap (place_in schema) ((bytes_eq-Decides (table_name c) name).0 x) ∙ at in
-      ap (λ (w : Option ℕ). row_of (After w) key) here ∙ ap (λ (rows : Rows). row_of rows key) (rows_set_here tables place (rows_after (rows_at tables place) c) within)
-      ∙ row_after_one (rows_at tables place) c key
+        let here : o ≡ Some place = sym y ∙ ap (place_in schema) ((bytes_eq-Decides (table_name c) name).0 x) ∙ at in
+        ap (λ (w : Option ℕ). row_of (After w) key) here
+        ∙ ap (λ (rows : Rows). row_of rows key) (rows_set_here tables place (rows_after (rows_at tables place) c) within)
+        ∙ row_after_one (rows_at tables place) c key
     go false x None y = refl
     go false x (Some p) y =
-      let apart : place ≡ p → ⊥ = λ e. let one = one_name schema (table_name c) name place (y ∙ ap Some (sym e)) at in let t = (bytes_eq-Decides (table_name c) name).1 one in absurd cc in
-      ap (λ (rows : Rows). row_of rows key) (rows_set_there tables p place (rows_after (rows_at tables p) c) apart)
+        let apart : place ≡ p → ⊥ =
+        λ e. let one = one_name schema (table_name c) name place (y ∙ ap Some (sym e)) at in
+        let t = (bytes_eq-Decides (table_name c) name).1 one in absurd cc in
+        ap (λ (rows : Rows). row_of rows key) (rows_set_there tables p place (rows_after (rows_at tables p) c) apart)
 
-pub last_first : (name : List ℕ) (key : Value) (c : Change) (changes : List Change) → last_change name key (c ∷ changes) ≡ option_or (last_change name key changes) (cond (names name key c) (Some c) None)
+pub last_first : (name : List ℕ) (key : Value) (c : Change) (changes : List Change)
+    → last_change name key (c ∷ changes) ≡ option_or (last_change name key changes) (cond (names name key c) (Some c) None)
 last_first name key c changes =
     ap (find (names name key)) (reverse-append (c ∷ []) changes) ∙ find-append (names name key) (reverse changes) (c ∷ [])
 
-pub decided : (schema : Schema) (tables : Tables) (changes : List Change) (name : List ℕ) (place : ℕ) (key : Value) → length tables ≡ length schema.tables → place_in schema name ≡ Some place
+pub decided : (schema : Schema) (tables : Tables) (changes : List Change) (name : List ℕ) (place : ℕ) (key : Value)
+    → length tables ≡ length schema.tables → place_in schema name ≡ Some place
     → row_of (rows_at (all_changed schema tables changes) place) key ≡ row_after (last_change name key changes) (row_of (rows_at tables place) key)
 decided schema tables [] name place key len at = refl
 decided schema tables (c ∷ changes) name place key len at =

@@ -1,5 +1,5 @@
 -- The test of two values holds exactly of one value twice, since it compares numbers as numbers and texts byte by byte.
-use Rattle.std.proofs.Common.{◌≡◌, Bool, Ordering, true, false, refl, ap}
+use Rattle.std.proofs.Common.{◌≡◌, Ordering, true, refl, ap}
 use Rattle.std.proofs.lemmas.Bool.Decides.{Decides-int_eq}
 use Rattle.std.proofs.lemmas.Cmp.{int_eq_equiv, nat_list_eq_equiv}
 use Rattle.std.proofs.lemmas.Slice.Eq.{bytes_eq-Decides}

@@ -1,9 +1,9 @@
 -- A valid log refuses no transaction, so its rows are what all its changes make of empty tables, and there the last change decides.
-use Rattle.std.proofs.Common.{◌≡◌, ◌∙◌, ℕ, zero, suc, Bool, List, [], ◌∷◌, ◌++◌, Option, true, false, cond, length, map, refl, ap, sym}
+use Rattle.std.proofs.Common.{◌≡◌, ◌∙◌, ℕ, zero, suc, List, [], ◌∷◌, true, map, refl, ap, sym}
 use Rattle.std.proofs.lemmas.Bool.{and_parts}
 use Rattle.std.proofs.lemmas.List.{length-map}
-use Rattle.std.specs.Prelude.{◌&&◌, None, Some, is_none, slice_get, unwrap_or}
-use Rattle.ring_types.specs.Rows.{Tables, after_payload, all_changed, check, empty_tables, is_valid, is_valid_from, no_rows, payload_is_accepted, row_of, rows, rows_at, rows_from}
+use Rattle.std.specs.Prelude.{slice_get, unwrap_or}
+use Rattle.ring_types.specs.Rows.{Tables, after_payload, all_changed, empty_tables, is_valid, is_valid_from, no_rows, payload_is_accepted, row_of, rows, rows_at, rows_from}
 use Rattle.ring_types.specs.declared.entries.Entry.{Entry}
 use Rattle.ring_types.specs.declared.entries.Payload.{Payload}
 use Rattle.ring_types.specs.declared.entries.Payload.TheVariants as payload
@@ -16,12 +16,14 @@ use Rattle.row_engine.proofs.Checked.{all_changed_both}
 use Rattle.row_engine.proofs.Decided.{decided}
 
 -- an accepted payload makes all its changes
-payload_changes : (schema : Schema) (tables : Tables) (p : Payload) → payload_is_accepted schema tables p ≡ true → after_payload schema tables p ≡ all_changed schema tables (changes_in p)
+payload_changes : (schema : Schema) (tables : Tables) (p : Payload) → payload_is_accepted schema tables p ≡ true
+    → after_payload schema tables p ≡ all_changed schema tables (changes_in p)
 payload_changes schema tables payload.NoOp h = refl
 payload_changes schema tables payload.Rotate h = refl
 payload_changes schema tables (payload.Txn t) h = rw h refl
 
-log_changes : (schema : Schema) (tables : Tables) (log : List Entry) → is_valid_from schema tables log ≡ true → rows_from schema tables log ≡ all_changed schema tables (changes_of log)
+log_changes : (schema : Schema) (tables : Tables) (log : List Entry) → is_valid_from schema tables log ≡ true
+    → rows_from schema tables log ≡ all_changed schema tables (changes_of log)
 log_changes schema tables [] h = refl
 log_changes schema tables (e ∷ log) h =
     let parts = and_parts (payload_is_accepted schema tables e.payload) (is_valid_from schema (after_payload schema tables e.payload) log) h in

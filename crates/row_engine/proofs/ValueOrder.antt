@@ -1,8 +1,8 @@
--- The derived order of values compares numbers as numbers and texts byte by byte, and puts Null before numbers before texts, as the definitions' order of keys does.
+-- The derived order of values puts Null before numbers before texts, and compares two of a kind as the definitions' order of keys does.
 use Rattle.std.proofs.Common.{◌≡◌, Bool, Ordering, true, false, cond, refl}
 use Rattle.std.proofs.lemmas.Map.Text.{is_eq-slice_cmp}
 use Rattle.std.specs.Cmp.{IsTotalOrder}
-use Rattle.std.specs.Ordering.{int_cmp, is_eq, is_lt}
+use Rattle.std.specs.Ordering.{is_eq, is_lt}
 use Rattle.std.specs.declared.cmp.Ordering.TheVariants.{Less, Equal, Greater}
 use Rattle.std.specs.Prelude.{int_lt}
 use Rattle.ring_types.specs.Rows.{comes_before, same_value}

@@ -1,5 +1,5 @@
 -- Which change decides the row of a key: the last that names the table and the key.
-use Rattle.std.specs.Prelude.{ℕ, Bool, true, false, ◌&&◌, List, [], Option, None, Some, bytes_eq, find, reverse, if◌then◌else◌}
+use Rattle.std.specs.Prelude.{ℕ, Bool, ◌&&◌, List, [], Option, None, Some, bytes_eq, find, reverse, if◌then◌else◌}
 use Rattle.std.specs.List.{flat_map}
 use Rattle.std.specs.Option.{option_map_or}
 use Rattle.ring_types.specs.declared.entries.Entry.{Entry}

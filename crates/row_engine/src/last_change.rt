@@ -59,11 +59,7 @@ pub fn refused_key(there: bool, change: &Change) -> Option<RowRefusal>
             }
         }
         Change::Update { .. } | Change::Delete { .. } => {
-            if there {
-                None
-            } else {
-                Some(RowRefusal::NoKey)
-            }
+            if there { None } else { Some(RowRefusal::NoKey) }
         }
     }
 }

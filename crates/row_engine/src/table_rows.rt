@@ -104,10 +104,10 @@ fn copied_key(alloc: Global, row: &[Value]) -> Result<Value, Memory>
 
 impl Duplicate for TableRows {
     fn copy(&self, alloc: Global) -> Result<TableRows, Memory> {
-        let mut by_key = BTreeMap::new(alloc);
-        for (key, row) in self.by_key.iter() {
-            by_key.insert(key.copy(alloc)?, row.copy(alloc)?)?;
+        let mut rows = TableRows::new(alloc);
+        for row in self.by_key.values() {
+            rows.put(alloc, row.copy(alloc)?)?;
         }
-        Ok(TableRows { by_key })
+        Ok(rows)
     }
 }

@@ -79,7 +79,12 @@ fn insert_word(alloc: Global, word: &str) -> Result<Change, Memory> {
 }
 
 /// Makes two changes as one transaction, and says whether they were made.
-fn apply_both(alloc: Global, tables: &mut Tables, one: Change, other: Change) -> Result<bool, Memory> {
+fn apply_both(
+    alloc: Global,
+    tables: &mut Tables,
+    one: Change,
+    other: Change,
+) -> Result<bool, Memory> {
     let changes = pair(alloc, one, other)?;
     tables.apply(&changes)
 }
@@ -104,8 +109,15 @@ fn rows_in_key_order(rt: HostRuntime) -> Result<(), Fail> {
     let found = tables.get(&name, &Value::Int(3)).ok_or("a row of 3")?;
     assert_eq!(rt; *found, numbered(alloc, 3, "three")?);
     assert!(rt; tables.get(&name, &Value::Int(2)).is_none());
-    assert!(rt; tables.get(&Text::copy_of(alloc, "none")?, &Value::Int(3)).is_none());
-    assert_eq!(rt; tables.rows(&Text::copy_of(alloc, "none")?)?, List::new(alloc));
+    assert!(rt;
+        tables
+            .get(&Text::copy_of(alloc, "none")?, &Value::Int(3))
+            .is_none()
+    );
+    assert_eq!(rt;
+        tables.rows(&Text::copy_of(alloc, "none")?)?,
+        List::new(alloc)
+    );
     Ok(())
 }
 
@@ -181,7 +193,11 @@ fn refusals_of_the_second_change(rt: HostRuntime) -> Result<(), Fail> {
         let mut tables = two_rows(alloc)?;
         let one = change_of(alloc, first)?;
         let changes = pair(alloc, one, change_of(alloc, second)?)?;
-        assert_eq!(rt; tables.check(&changes), Err(refusal), "cases {first} and {second}");
+        assert_eq!(rt;
+            tables.check(&changes),
+            Err(refusal),
+            "cases {first} and {second}"
+        );
         assert!(rt; !tables.apply(&changes)?);
         let as_before = pair(alloc, Value::Int(1), Value::Int(3))?;
         assert_eq!(rt; keys(alloc, &tables, "t")?, as_before);
@@ -214,7 +230,10 @@ fn a_copy_stands_apart(rt: HostRuntime) -> Result<(), Fail> {
     let copy = tables.copy(alloc)?;
     let changes = List::of_one(alloc, delete(alloc, 1)?)?;
     assert!(rt; tables.apply(&changes)?);
-    assert_eq!(rt; keys(alloc, &tables, "t")?, List::of_one(alloc, Value::Int(3))?);
+    assert_eq!(rt;
+        keys(alloc, &tables, "t")?,
+        List::of_one(alloc, Value::Int(3))?
+    );
     let both = pair(alloc, Value::Int(1), Value::Int(3))?;
     assert_eq!(rt; keys(alloc, &copy, "t")?, both);
     assert_eq!(rt; *copy.schema(), *tables.schema());

@@ -9,7 +9,7 @@ use Rattle.row_engine.proofs.tables.places_of.Given as goal
 abbrev pub invariant-loop-place : goal.invariant-loop-place
 invariant-loop-place l = record {
   within : l.place ≤ length l.tables;
-  first : (name : List ℕ) → get_by_text l.places name ≡ position_from (λ (t : Table). bytes_eq t.name name) l.place (drop l.place l.tables)
+  first : (name : List ℕ) → get_by_text l.places name ≡ position_from (λ (t : Table). bytes_eq t.name name) l.place (drop l.place l.tables);
 }
 
 abbrev pub decreases-loop-place : goal.decreases-loop-place

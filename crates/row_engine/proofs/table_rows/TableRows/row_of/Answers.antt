@@ -1,3 +1,4 @@
+-- the map finds by key what the definition finds by a walk
 use Rattle.std.proofs.Common.{◌∙◌, ap}
 use Rattle.ring_types.specs.Rows.{Rows, row_of}
 use Rattle.row_engine.proofs.Entries.{found}

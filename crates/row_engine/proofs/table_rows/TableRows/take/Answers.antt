@@ -1,4 +1,5 @@
-use Rattle.std.proofs.Common.{◌≡◌, ◌∙◌, ap, subst, sym}
+-- the map says that it has no entry of the key left, so it took the one row that the definition leaves out
+use Rattle.std.proofs.Common.{◌∙◌, ap, subst, sym}
 use Rattle.std.specs.BTreeMap.{is_at}
 use Rattle.std.specs.Map.{lookup, values_of}
 use Rattle.std.specs.Prelude.{List}
@@ -11,7 +12,8 @@ use Rattle.row_engine.proofs.table_rows.TableRows.take.Goals as goal
 
 pub invariant_of-self : goal.invariant_of-self
 invariant_of-self c =
-    subst IsKeyed (sym c.remove.ensures.entries) (keyed_removed value_cmp total agrees c.self.inside.by_key.entries (is_at (value_cmp c.args.key.now)) c.self.invariant)
+    let old = c.self.inside.by_key.entries in
+    subst IsKeyed (sym c.remove.ensures.entries) (keyed_removed value_cmp total agrees old (is_at (value_cmp c.args.key.now)) c.self.invariant)
 
 pub returns : goal.returns
 returns c =

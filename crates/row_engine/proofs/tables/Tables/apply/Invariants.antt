@@ -6,5 +6,5 @@ use Rattle.row_engine.proofs.tables.Tables.apply.Given as goal
 abbrev pub invariant-loop-change : goal.invariant-loop-change
 invariant-loop-change l = record {
   schema : l.self.schema ≡ l.fn.self.schema;
-  rows : all_changed l.fn.self.schema l.self.rows (drop l.change-index l.changes) ≡ all_changed l.fn.self.schema l.fn.self.rows l.changes
+  rows : all_changed l.fn.self.schema l.self.rows (drop l.change-index l.changes) ≡ all_changed l.fn.self.schema l.fn.self.rows l.changes;
 }

@@ -1,3 +1,4 @@
+-- the last earlier change that names the key decides whether it is there, and the table where none names it
 use Rattle.std.proofs.Common.{◌≡◌, ◌∙◌, ◌<◌, ap, subst, sym, arith, length}
 use Rattle.std.specs.Option.{option_copied}
 use Rattle.std.specs.Prelude.{get_or}
@@ -12,7 +13,8 @@ returns-in-Some c =
     let here = c.args.self.now in
     let same = subst (λ (f : Filled). length f.rows ≡ length f.schema.tables) c.self.view_is c.self.invariant.0 in
     let last = sym c.last_change.ensures ∙ ap option_copied c.in-Some.is in
-    c.leaves_row.ensures ∙ there_by_last here.schema here.rows c.args.earlier.now c.args.table.now c.args.place c.args.key.now c.in-Some.change.now same c.requires last
+    c.leaves_row.ensures
+    ∙ there_by_last here.schema here.rows c.args.earlier.now c.args.table.now c.args.place c.args.key.now c.in-Some.change.now same c.requires last
 
 pub returns-in-None : goal.returns-in-None
 returns-in-None c =
