@@ -1,11 +1,11 @@
 //! The fields of bodies, each with the fault that it is.
-ghost use Rattle.std.specs.Prelude.{◌≡◌, ◌==◌, ◌≤◌, ◌<◌, true, length, IfOk};
+ghost use Rattle.std.specs.Prelude.{◌≡◌, ◌≤◌, ◌<◌, true, length, IfOk};
 ghost use Rattle.std.specs.Int.{w64};
 ghost use Rattle.event_frame.specs.Forms.{found, front_of, ended};
 ghost use Rattle.event_frame.specs.Fields.{constant, number, server, packed, agrees};
 ghost use Rattle.event_frame.specs.Reading.{Gives};
 ghost use Rattle.ring_types.specs.Rows.{is_number};
-ghost use Rattle.event_txn.specs.Tables.{table_of_many};
+ghost use Rattle.event_txn.specs.Tables.{bitmap, table_of_many};
 ghost use Rattle.event_txn.specs.Rows.{nulls, bits_in, text_form};
 ghost use Rattle.event_txn.specs.declared.faults.BodyFault.TheVariants.{Field, Table, Value};
 
@@ -71,15 +71,25 @@ pub fn packed_at(bytes: &[u8]) -> Result<(u64, &[u8]), BodyFault>
     }
 }
 
-/// A number that was read and must be this one.
-pub fn agrees_at(bytes: &[u8], count: u64, due: u64) -> Result<&[u8], BodyFault>
-    ensures { Gives (λ x. (tt, x.now)) result (found Field Table ((agrees (count == due)).at bytes.now)) }
+/// Nothing is taken: what was read is what is due, or not.
+pub fn agrees_at(bytes: &[u8], is_due: bool, wrong: BodyFault) -> Result<&[u8], BodyFault>
+    ensures { Gives (λ x. (tt, x.now)) result (found Field wrong ((agrees is_due).at bytes.now)) }
 {
-    if count == due {
-        Ok(bytes)
-    } else {
-        Err(BodyFault::Table)
-    }
+    if is_due { Ok(bytes) } else { Err(wrong) }
+}
+
+/// The only bits that may stand there, in whole bytes.
+pub fn bitmap_at<'a>(
+    bytes: &'a [u8],
+    columns: usize,
+    bits: u64,
+    wrong: BodyFault,
+) -> Result<&'a [u8], BodyFault>
+    requires { columns ≤ 64 }
+    ensures { Gives (λ x. (tt, x.now)) result (found Field wrong ((constant (bitmap columns bits)).at bytes.now)) }
+{
+    let size = (columns + 7) / 8;
+    constant_at(bytes, &bits.to_le_bytes()[..size], wrong)
 }
 
 /// Nothing is left.
