@@ -4,6 +4,7 @@ ghost use Rattle.event_frame.specs.Fields.{packed_text};
 ghost use Rattle.event_txn.specs.Tables.{name_text, bitmap};
 ghost use Rattle.event_txn.specs.Writing.{Keeps};
 
+use crate::tables::length_byte;
 use std::alloc::AllocError;
 
 /// Puts these bytes.
@@ -41,7 +42,7 @@ pub fn put_name(out: &mut Vec<u8>, name: &[u8]) -> Result<(), AllocError>
     ensures ok { OnOk result (out.new.items ≡ out.old.items ++ name_text name.now) }
     ensures err { OnErr result (Keeps out.old.items out.new.items) }
 {
-    put(out, &[name.len() as u8])?;
+    put(out, &length_byte(name))?;
     put(out, name)?;
     put(out, &[0])
 }

@@ -28,7 +28,6 @@ pub fn constant_at<'a>(
 }
 
 /// A server's 16 bytes.
-#[tactic(auto, using(crate::proofs::FieldFaults::found_again, crate::proofs::FieldFaults::fault_again))]
 pub fn server_at(bytes: &[u8]) -> Result<(u128, &[u8]), BodyFault>
     ensures { Gives (λ x. (x.0, x.1.now)) result (found Field Field (server.at bytes.now)) }
 {
@@ -50,7 +49,6 @@ pub fn number_at(bytes: &[u8]) -> Result<(u64, &[u8]), BodyFault>
 }
 
 /// Any eight bytes as a number.
-#[tactic(auto, using(crate::proofs::FieldFaults::found_again, crate::proofs::FieldFaults::fault_again))]
 pub fn long_at(bytes: &[u8], wrong: BodyFault) -> Result<(u64, &[u8]), BodyFault>
     ensures { Gives (λ x. (x.0, x.1.now)) result (found Field wrong ((number w64 (λ _. true)).at bytes.now)) }
 {

@@ -1,5 +1,5 @@
 //! The body that describes a table before its rows.
-ghost use Rattle.std.specs.Prelude.{◌≡◌, ◌≤◌, ◌<◌, true, length, IfOk};
+ghost use Rattle.std.specs.Prelude.{◌≡◌, ◌≤◌, ◌<◌, ◌∷◌, [], true, length, IfOk};
 ghost use Rattle.event_frame.specs.Forms.{One, body_of, front_of};
 ghost use Rattle.event_frame.specs.Fields.{constant};
 ghost use Rattle.event_frame.specs.Reading.{Gives};
@@ -50,6 +50,14 @@ pub fn table_number(place: usize) -> [u8; 6]
     [a, b, c, d, 0, 0]
 }
 
+/// The length of a name, in one byte.
+pub fn length_byte(name: &[u8]) -> [u8; 1]
+    requires { length name.now < 256 }
+    ensures { result ≡ length name.now ∷ [] }
+{
+    [name.len() as u8]
+}
+
 /// What the body says of the table.
 #[tactic(auto, unfolding(crate::specs::Tables::described))]
 fn described_at<'a>(bytes: &'a [u8], schema: &Schema, table: &Table) -> Result<&'a [u8], BodyFault>
@@ -78,7 +86,7 @@ fn name_at<'a>(bytes: &'a [u8], name: &[u8]) -> Result<&'a [u8], BodyFault>
     requires { length name.now < 256 }
     ensures { Gives (λ x. (tt, x.now)) result (front_of fault.Field (name_form name.now) bytes.now) }
 {
-    let rest = constant_at(bytes, &[name.len() as u8], BodyFault::Table)?;
+    let rest = constant_at(bytes, &length_byte(name), BodyFault::Table)?;
     let rest = constant_at(rest, name, BodyFault::Table)?;
     constant_at(rest, &[0], BodyFault::Table)
 }
