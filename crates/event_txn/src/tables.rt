@@ -77,7 +77,12 @@ fn described_at<'a>(bytes: &'a [u8], schema: &Schema, table: &Table) -> Result<&
     let (size, rest) = packed_at(rest)?;
     let rest = agrees_at(rest, size == metadata_size(table) as u64, BodyFault::Table)?;
     let rest = metadata_at(rest, columns)?;
-    bitmap_at(rest, columns.len(), ones(columns.len()) - 1, BodyFault::Table)
+    bitmap_at(
+        rest,
+        columns.len(),
+        ones(columns.len()) - 1,
+        BodyFault::Table,
+    )
 }
 
 /// A name that is due: its length, its bytes, a zero.

@@ -80,19 +80,23 @@ fn column(alloc: Global, name: &str, shape: Shape) -> Result<Column, Memory> {
     })
 }
 
-fn table(alloc: Global) -> Result<Table, Memory> {
+fn columns(alloc: Global) -> Result<List<Column>, Memory> {
     let mut columns = List::of_one(alloc, column(alloc, "id", Shape::Int)?)?;
     columns.push(column(alloc, "name", Shape::Text { limit: 20 })?)?;
-    Ok(Table {
-        name: Text::copy_of(alloc, "t")?,
-        columns,
-    })
+    Ok(columns)
+}
+
+fn table(alloc: Global) -> Result<Table, Memory> {
+    let name = Text::copy_of(alloc, "t")?;
+    let columns = columns(alloc)?;
+    Ok(Table { name, columns })
 }
 
 fn member(alloc: Global) -> Result<MemberPart, Memory> {
+    let region = Text::copy_of(alloc, "east")?;
     Ok(MemberPart {
         id: 1,
-        region: Text::copy_of(alloc, "east")?,
+        region,
         kind: Kind::Full,
         server: SERVER,
         address: None,
@@ -128,14 +132,12 @@ fn schema_of(ring: &Ring) -> &Schema
 }
 
 fn txn(alloc: Global, change: Change) -> Result<Txn, Memory> {
+    let changes = List::of_one(alloc, change)?;
     let gtid = Gtid {
         server: SERVER,
         number: 1,
     };
-    Ok(Txn {
-        gtid,
-        changes: List::of_one(alloc, change)?,
-    })
+    Ok(Txn { gtid, changes })
 }
 
 fn row(alloc: Global, key: i64, name: Value) -> Result<List<Value>, Memory> {
@@ -314,12 +316,7 @@ fn refuses(
     assert_eq!(rt; answer, Some(wanted));
 }
 
-fn refuses_edit(
-    rt: &impl Abort,
-    alloc: Global,
-    schema: &Schema,
-    edit: &Edit,
-) -> Result<(), Fail>
+fn refuses_edit(rt: &impl Abort, alloc: Global, schema: &Schema, edit: &Edit) -> Result<(), Fail>
     requires { is_schema schema.now ≡ true }
 {
     let (event, at, gone, put, fault) = edit;
@@ -355,23 +352,35 @@ fn refuses_each_event_of_another_type(rt: HostRuntime) -> Result<(), Fail> {
     Ok(())
 }
 
-/// A transaction has a number within its file and a table to change, so none begins where there are
-/// no such.
+/// Expects that no transaction begins at this place in the log of a ring with these tables.
+fn refuses_gtid(
+    rt: &impl Abort,
+    alloc: Global,
+    tables: List<Table>,
+    place: Place,
+) -> Result<(), Fail> {
+    let ring = ring(rt, alloc, tables)?;
+    let wanted = TxnError::Order { at: 0 };
+    refuses(rt, alloc, schema_of(&ring), inserted(), place, wanted);
+    Ok(())
+}
+
+/// A transaction has a number within its file, from 1 on.
 #[test]
-fn refuses_a_gtid_without_a_number_or_a_table(rt: HostRuntime) -> Result<(), Fail> {
-    let alloc = rt.alloc();
+fn refuses_a_transaction_without_a_number(rt: HostRuntime) -> Result<(), Fail> {
     let place = Place {
         file: 1,
         at: 241,
         sequence: 0,
     };
-    let one = ring_of_one(&rt, alloc)?;
-    let order = TxnError::Order { at: 0 };
-    refuses(&rt, alloc, schema_of(&one), inserted(), place, order);
-    let bare = ring(&rt, alloc, List::new(alloc))?;
-    let order = TxnError::Order { at: 0 };
-    refuses(&rt, alloc, schema_of(&bare), inserted(), PLACE, order);
-    Ok(())
+    let tables = List::of_one(rt.alloc(), table(rt.alloc())?)?;
+    refuses_gtid(&rt, rt.alloc(), tables, place)
+}
+
+/// A transaction has a table to change.
+#[test]
+fn refuses_a_transaction_without_a_table(rt: HostRuntime) -> Result<(), Fail> {
+    refuses_gtid(&rt, rt.alloc(), List::new(rt.alloc()), PLACE)
 }
 
 #[test]
