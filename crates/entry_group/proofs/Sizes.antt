@@ -4,6 +4,7 @@ use Rattle.std.specs.List.{flat_map}
 use Rattle.std.proofs.Math.Seq.{take-suc, drop-cons}
 use Rattle.std.proofs.lemmas.List.{take_all, drop_all}
 use Rattle.std.proofs.lemmas.List.Concat.{flat_map-cons}
+use Rattle.event_frame.specs.declared.frames.TheConstants.{MOST_BODY_BYTES}
 use Rattle.gtid_set.specs.Bytes.{number_bytes, uuid_bytes, interval_bytes, server_bytes, set_bytes}
 use Rattle.ring_types.specs.Logs.{is_rotate}
 use Rattle.ring_types.specs.Sizes.{group_bytes}
@@ -49,15 +50,15 @@ whole_set set i size is le =
     let t : take i set ≡ set = take_all i set le in
     is ∙ ap (λ (xs : List ServerSet). min (8 + length (flat_map server_bytes xs)) (2 ^ 64 - 1)) t ∙ ap (λ (n : ℕ). min n (2 ^ 64 - 1)) (sym (set_size set))
 
-pub small_head : (set : List ServerSet) (n : ℕ) → n ≡ min (length (set_bytes set)) (2 ^ 64 - 1) → n ≤ 2 ^ 24 → 149 + n ≡ 149 + length (set_in_head set)
+pub small_head : (set : List ServerSet) (n : ℕ) → n ≡ min (length (set_bytes set)) (2 ^ 64 - 1) → n ≤ MOST_BODY_BYTES → 149 + n ≡ 149 + length (set_in_head set)
 small_head set n is le =
     let l : length (set_bytes set) ≡ n = omega arith in
-    let t : nat_le (length (set_bytes set)) (2 ^ 24) ≡ true = grind (arith, nat_tests, l, le) in
+    let t : nat_le (length (set_bytes set)) (MOST_BODY_BYTES) ≡ true = grind (arith, nat_tests, l, le) in
     rw t (omega (arith, l))
 
-pub large_head : (set : List ServerSet) (n : ℕ) → n ≡ min (length (set_bytes set)) (2 ^ 64 - 1) → 2 ^ 24 < n → 157 ≡ 149 + length (set_in_head set)
+pub large_head : (set : List ServerSet) (n : ℕ) → n ≡ min (length (set_bytes set)) (2 ^ 64 - 1) → MOST_BODY_BYTES < n → 157 ≡ 149 + length (set_in_head set)
 large_head set n is gt =
-    let t : nat_le (length (set_bytes set)) (2 ^ 24) ≡ false = grind (arith, nat_tests, is, gt) in
+    let t : nat_le (length (set_bytes set)) (MOST_BODY_BYTES) ≡ false = grind (arith, nat_tests, is, gt) in
     rw t (omega (arith, set_size []))
 
 -- ---- sums that are told

@@ -1,6 +1,7 @@
 -- The files of a log: each begins with a head, has groups in order, and ends with the group of a Rotate; the last one goes on. All their bytes are a function of the entries.
 use Rattle.std.specs.Prelude.{ℕ, ◌+◌, ◌-◌, ◌^◌, List, [], ◌∷◌, ◌++◌, length, min, nat_le, if◌then◌else◌}
 use Rattle.event_control.specs.ControlEvents.{head}
+use Rattle.event_frame.specs.declared.frames.TheConstants.{MOST_BODY_BYTES}
 use Rattle.gtid_set.specs.Bytes.{set_bytes}
 use Rattle.ring_types.specs.Gtids.{gtids}
 use Rattle.ring_types.specs.Sizes.{group_bytes}
@@ -16,7 +17,7 @@ use Rattle.entry_group.specs.Groups.{group, further}
 
 -- the bytes of a set in a head; those of the empty set where they are too many for one event
 abbrev pub set_in_head : List ServerSet → List ℕ
-set_in_head set = if nat_le (length (set_bytes set)) (2 ^ 24) then set_bytes set else set_bytes []
+set_in_head set = if nat_le (length (set_bytes set)) MOST_BODY_BYTES then set_bytes set else set_bytes []
 
 -- the head of a file, where these entries stand in the files before
 abbrev pub head_after : List Entry → List ℕ

@@ -2,12 +2,10 @@ ghost use Rattle.std.specs.Prelude.{◌≡◌, ◌-◌, ◌^◌, ◌∷◌, ◌+
 ghost use Rattle.gtid_set.specs.Bytes.{server_bytes, set_bytes};
 ghost use Rattle.entry_group.specs.Files as spec;
 
+use event_frame::MOST_BODY_BYTES;
 use ring_plain::{group_size, gtids};
 use ring_types::{Entry, List, Memory, Schema, ServerSet, is_rotate};
 use std::alloc::Global;
-
-/// The most bytes that the set of earlier transactions may take in a head.
-const MOST_SET_BYTES: u64 = 1 << 24;
 
 fn server_size(set: &ServerSet) -> u64
     ensures { result ≡ min (length (server_bytes set.now)) (2 ^ 64 - 1) }
@@ -34,7 +32,7 @@ fn head_size(alloc: Global, before: &[Entry]) -> Result<u64, Memory>
 {
     let set = gtids(alloc, before)?;
     let size = set_size(set.as_slice());
-    if size <= MOST_SET_BYTES {
+    if size <= MOST_BODY_BYTES {
         Ok(149 + size)
     } else {
         Ok(157)

@@ -2,6 +2,7 @@ ghost use Rattle.std.specs.Prelude.{◌≡◌, ◌≤◌, ◌^◌, ◌++◌, len
 ghost use Rattle.event_frame.specs.Forms.{body_of, front_of};
 ghost use Rattle.event_frame.specs.Events.{event};
 ghost use Rattle.event_frame.specs.Reading.{Gives};
+ghost use Rattle.event_frame.specs.declared.frames.TheConstants.{MOST_BODY_BYTES};
 ghost use Rattle.event_control.specs.Bodies.{server_name, fixed_sizes, format_form, format_body};
 ghost use Rattle.event_control.specs.ControlEvents.{head, head_at};
 ghost use Rattle.event_control.specs.declared.due_events.TheConstants.{FORMAT_DESCRIPTION};
@@ -91,7 +92,7 @@ fn format_at(body: &[u8]) -> Result<&[u8], ControlError>
 
 /// Puts the head of a file; these are the bytes of the set of all transactions in earlier files.
 pub fn write_head(out: &mut Vec<u8>, previous: &[u8]) -> Result<(), Memory>
-    requires { length previous.now ≤ 2 ^ 24 }
+    requires { length previous.now ≤ MOST_BODY_BYTES }
     ensures ok { OnOk result (out.new.items ≡ out.old.items ++ head previous.now) }
     ensures err { OnErr result (out.new.items ≡ out.old.items) }
 {
@@ -107,7 +108,7 @@ pub fn write_head(out: &mut Vec<u8>, previous: &[u8]) -> Result<(), Memory>
 
 /// Without memory a part of it may be put.
 fn put_head(out: &mut Vec<u8>, previous: &[u8]) -> Result<(), Memory>
-    requires { length previous.now ≤ 2 ^ 24 }
+    requires { length previous.now ≤ MOST_BODY_BYTES }
     ensures ok { OnOk result (out.new.items ≡ out.old.items ++ head previous.now) }
     ensures err { OnErr result (take (length out.old.items) out.new.items ≡ out.old.items) }
 {

@@ -2,9 +2,14 @@ ghost use Rattle.std.specs.Prelude.{◌≡◌, ◌≤◌, ◌<◌, ◌+◌, ◌%
 ghost use Rattle.std.specs.Int.{w32, to_le_bytes};
 ghost use Rattle.event_frame.specs.Checksums.{crc32};
 ghost use Rattle.event_frame.specs.Events.{event, unsummed, header, header_at, event_at, word_in};
+ghost use Rattle.event_frame.specs.declared.frames.TheConstants.{MOST_BODY_BYTES};
 
 use crate::checksums::crc32;
 use std::alloc::AllocError;
+
+/// The most bytes of an event's body, and so of the set of GTIDs in a file's head: an event's size is
+/// far from 2^32 then, which its field could not say.
+pub const MOST_BODY_BYTES: u64 = 1 << 24;
 
 /// What stands at the front of some bytes; offsets are counted from their beginning.
 #[derive(Clone, Copy, Debug, PartialEq, Eq)]
@@ -93,7 +98,7 @@ pub fn write_event(
     body: &[u8],
     at: u64,
 ) -> Result<(), AllocError>
-    requires { length body.now ≤ 2 ^ 24 }
+    requires { length body.now ≤ MOST_BODY_BYTES }
     ensures ok { OnOk result (out.new.items ≡ out.old.items ++ event kind flags body.now at) }
     ensures err { OnErr result (out.new.items ≡ out.old.items) }
 {
@@ -116,7 +121,7 @@ fn put_event(
     body: &[u8],
     at: u64,
 ) -> Result<(), AllocError>
-    requires { length body.now ≤ 2 ^ 24 }
+    requires { length body.now ≤ MOST_BODY_BYTES }
     ensures ok { OnOk result (out.new.items ≡ out.old.items ++ event kind flags body.now at) }
     ensures err { OnErr result (take (length out.old.items) out.new.items ≡ out.old.items) }
 {
@@ -142,7 +147,7 @@ fn put_unsummed(
     body: &[u8],
     at: u64,
 ) -> Result<(), AllocError>
-    requires { length body.now ≤ 2 ^ 24 }
+    requires { length body.now ≤ MOST_BODY_BYTES }
     ensures ok { OnOk result (out.new.items ≡ out.old.items ++ unsummed kind flags body.now at) }
     ensures err { OnErr result (take (length out.old.items) out.new.items ≡ out.old.items) }
 {

@@ -45,6 +45,7 @@ begin_fields = (
 
 -- ---- tables
 name_fields : (name : List ℕ) → AreFields (name_form name)
+unfolding name_form
 name_fields name = (constant_is_field _, λ size. (constant_is_field _, λ bytes. constant_is_field _))
 
 types_fields : (columns : List Column) → AreFields (types_form columns)
@@ -100,9 +101,11 @@ values_with_fields key [] bits = tt
 values_with_fields key (c ∷ columns) bits = (cell_fields _ c.shape, λ first. (agrees_is_field (same_value key first), λ same. (values_fields columns _, λ others. tt)))
 
 image_fields : (columns : List Column) → length columns ≤ 64 → AreFields (image_form columns)
+unfolding image_form
 image_fields columns few = (nulls_is_field (length columns) few, λ bits. values_fields columns bits)
 
 image_with_fields : (key : Value) (columns : List Column) → length columns ≤ 64 → AreFields (image_with key columns)
+unfolding image_with
 image_with_fields key columns few = (nulls_is_field (length columns) few, λ bits. values_with_fields key columns bits)
 
 key_fields : (columns : List Column) → AreFields (key_form columns)
@@ -110,6 +113,7 @@ key_fields [] = tt
 key_fields (c ∷ columns) = (nulls_is_field 1 (omega arith), λ bits. value_fields c.shape)
 
 rows_fields : (place : ℕ) (table : Table) → AreFields (rows_form place table)
+unfolding rows_form
 rows_fields place table = (constant_is_field _, λ number. (constant_is_field _, λ flags. (constant_is_field _, λ extra. (packed_is_field, λ count. agrees_is_field _))))
 
 pub write_fields : (place : ℕ) (table : Table) → length table.columns ≤ 64 → AreFields (write_form place table)

@@ -7,6 +7,7 @@ use Rattle.std.proofs.lemmas.Bool.Decides.{nat_tests}
 use Rattle.std.proofs.lemmas.List.{length-append, length-take}
 use Rattle.std.proofs.lemmas.List.Sums.{sum_by-cons}
 use Rattle.event_frame.specs.Fields.{packed_text}
+use Rattle.event_frame.specs.declared.frames.TheConstants.{MOST_BODY_BYTES}
 use Rattle.ring_types.specs.Rings.{column_fits, shape_fits}
 use Rattle.ring_types.specs.Rows.{is_null, key_of, value_fits, values_fit, key_fits_in, fits_table}
 use Rattle.ring_types.specs.Sizes.{packed_size, bitmap_size, metadata_size, all_metadata, table_map_size, value_size, values_size, image_size, rows_event_size}
@@ -172,7 +173,7 @@ key_small (c ∷ columns) key h k =
 -- the length of the body of a row's event, and that it is not long
 pub record HasSize (place : ℕ) (table : Table) (c : Change) : Type 0 where
   pub size : length (rows_body place table c) + 23 ≡ rows_event_size table c
-  pub small : rows_event_size table c < 2 ^ 24
+  pub small : rows_event_size table c ≤ MOST_BODY_BYTES
 
 packed_small : (n : ℕ) → n ≤ 64 → packed_size n ≡ 1
 packed_small n few = grind (arith, nat_tests, few)
@@ -239,7 +240,7 @@ row_size place table (Update name (key ∷ row)) f =
       small = omega (arith, packed_small n f.few, f.few, few, key_small table.columns key f.columns key_is, values_small table.columns (key ∷ row) f.columns row_is.0);
     }
 
-pub map_small : (schema : Schema) (t : Table) → length schema.database ≤ 64 → length t.name ≤ 64 → length t.columns ≤ 64 → table_map_size schema t < 2 ^ 24
+pub map_small : (schema : Schema) (t : Table) → length schema.database ≤ 64 → length t.name ≤ 64 → length t.columns ≤ 64 → table_map_size schema t ≤ MOST_BODY_BYTES
 map_small schema t database name few =
     let all : all_metadata t ≤ 128 = omega (arith, metadata_few t.columns, few) in
     omega (arith, packed_small (length t.columns) few, packed_most (all_metadata t), all, database, name)
@@ -248,7 +249,7 @@ pub row_length : (place : ℕ) (table : Table) (c : Change) → list_all column_
     → length (rows_body place table c) + 23 ≡ rows_event_size table c
 row_length place table c columns some few fits = (row_size place table c (record { columns = columns; some = some; few = few; fits = fits })).size
 
-pub row_small : (table : Table) (c : Change) → list_all column_fits table.columns ≡ true → 1 ≤ length table.columns → length table.columns ≤ 64 → fits_table table c ≡ true → rows_event_size table c < 2 ^ 24
+pub row_small : (table : Table) (c : Change) → list_all column_fits table.columns ≡ true → 1 ≤ length table.columns → length table.columns ≤ 64 → fits_table table c ≡ true → rows_event_size table c ≤ MOST_BODY_BYTES
 row_small table c columns some few fits = (row_size 0 table c (record { columns = columns; some = some; few = few; fits = fits })).small
 
 pub gtid_length : (sequence : ℕ) (g : Gtid) → 42 ≡ length (gtid_body sequence g)

@@ -1,3 +1,4 @@
+pub mod Steps
 pub mod FieldFaults
 pub mod Values
 pub mod Offsets

@@ -58,6 +58,7 @@ begin_spelled = (tt, _, _, (tt, refl), (tt, _, _, (tt, refl), (tt, _, _, (tt, re
 -- ---- tables
 
 name_spelled : (name : List ℕ) → Spells (name_form name) (name_text name) tt
+unfolding name_form
 name_spelled name = (tt, length name ∷ [], name ++ 0 ∷ [], (tt, refl), (tt, name, 0 ∷ [], (tt, refl), (tt, refl), refl), refl)
 
 types_spelled : (columns : List Column) → Spells (types_form columns) (types_text columns) tt

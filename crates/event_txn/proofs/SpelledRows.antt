@@ -37,6 +37,7 @@ nulls_even [] h = refl
 nulls_even (v ∷ row) h = rw h (omega arith)
 
 image_spelled : (columns : List Column) (row : List Value) → list_all column_fits columns ≡ true → values_fit columns row ≡ true → is_null (key_of row) ≡ false → FitsValues row → Spells (image_form columns) (image_text columns row) row
+unfolding image_form
 image_spelled columns row h k key fits =
     let e : length row ≡ length columns = one_each columns row k in
     let below = subst (λ (n : ℕ). nulls_of row < 2 ^ n) e (nulls_below row) in
@@ -57,6 +58,7 @@ same_self (value.Text t) = (bytes_eq-Decides t t).1 refl
 
 image_with_spelled : (columns : List Column) (row : List Value) → list_all column_fits columns ≡ true → values_fit columns row ≡ true → is_null (key_of row) ≡ false → FitsValues row
     → Spells (image_with (key_of row) columns) (image_text columns row) row
+unfolding image_with
 image_with_spelled [] [] h k key fits = (0, bitmap 0 0, [], ((omega arith, refl), refl), (refl, refl), refl)
 image_with_spelled [] (v ∷ row) h k key fits = absurd cc
 image_with_spelled (c ∷ columns) [] h k key fits = absurd cc
@@ -76,6 +78,7 @@ image_with_spelled (c ∷ columns) (v ∷ row) h k key fits =
     )
 
 rows_spelled : (place : ℕ) (t : Table) → length t.columns < 2 ^ 64 → Spells (rows_form place t) (rows_text place t) tt
+unfolding rows_form
 rows_spelled place t few =
     (tt, table_number place, _, (tt, refl), (tt, 1 ∷ 0 ∷ [], _, (tt, refl), (tt, 2 ∷ 0 ∷ [], _, (tt, refl), (length t.columns, packed_text (length t.columns), [], (few, refl), (same (length t.columns), refl), sym (append-nil (packed_text (length t.columns)))), refl), refl), refl)
 

@@ -60,6 +60,7 @@ begin_is text u s =
 -- ---- tables
 
 name_is : (name text : List ℕ) (u : Unit {0}) → Spells (name_form name) text u → text ≡ name_text name
+unfolding name_form
 name_is name text u s =
     let (a, t0, m0, f0, s1, e0) = s in
     let (b, t1, m1, f1, s2, e1) = s1 in
@@ -186,6 +187,7 @@ image_from columns bits lead text row some e l r =
     }
 
 pub image_is : (columns : List Column) (text : List ℕ) (row : List Value) → 1 ≤ length columns → Spells (image_form columns) text row → ImageIs columns text row
+unfolding image_form
 image_is columns text row some s =
     let (bits, t, m, f, s1, e) = s in
     subst (λ (x : List ℕ). ImageIs columns x row) (sym e) (image_from columns bits t m row some f.0.1 f.1 (values_is columns bits m row f.0.0 s1))
@@ -224,6 +226,7 @@ pub record RepeatIs (key : Value) (columns : List Column) (text : List ℕ) (row
   pub same : key ≡ key_of row
 
 pub image_with_is : (key : Value) (columns : List Column) (text : List ℕ) (row : List Value) → 1 ≤ length columns → Spells (image_with key columns) text row → RepeatIs key columns text row
+unfolding image_with
 image_with_is key [] text row some s = absurd (omega (arith, some))
 image_with_is key (c ∷ columns) text row some s =
     let (bits, t, m, f, s1, e) = s in
@@ -239,6 +242,7 @@ image_with_is key (c ∷ columns) text row some s =
     }
 
 pub rows_is : (place : ℕ) (t : Table) (text : List ℕ) (u : Unit {0}) → Spells (rows_form place t) text u → text ≡ rows_text place t
+unfolding rows_form
 rows_is place t text u s =
     let (a0, t0, m0, f0, s1, e0) = s in
     let (a1, t1, m1, f1, s2, e1) = s1 in

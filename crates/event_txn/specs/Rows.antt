@@ -77,7 +77,7 @@ abbrev pub nulls_of : List RowValue → ℕ
 nulls_of [] = 0
 nulls_of (v ∷ row) = null_bit (is_null v) + 2 * nulls_of row
 
-abbrev pub image_form : List Column → Form BodyFault (List RowValue)
+unfoldable pub image_form : List Column → Form BodyFault (List RowValue)
 image_form columns = do
   bits ← One Value (nulls (length columns))
   values_form columns bits
@@ -102,7 +102,7 @@ values_with key (c ∷ columns) bits = do
   Whole (first ∷ others)
 
 -- the image of a row that has this key
-abbrev pub image_with : RowValue → List Column → Form BodyFault (List RowValue)
+unfoldable pub image_with : RowValue → List Column → Form BodyFault (List RowValue)
 image_with key columns = do
   bits ← One Value (nulls (length columns))
   values_with key columns bits
@@ -115,7 +115,7 @@ image_with key columns = do
 --   present           a bit for each column, lowest first: 1 where the image has it; an update has two of these
 --   images            an insert: all columns; an update: the first column alone before, all columns after, with the same key; a delete: the first column alone
 
-abbrev pub rows_form : ℕ → TableOf → Form BodyFault (Unit {0})
+unfoldable pub rows_form : ℕ → TableOf → Form BodyFault (Unit {0})
 rows_form place table = do
   number ← One Table (constant (table_number place))
   flags ← One Field (constant (1 ∷ 0 ∷ []))

@@ -54,7 +54,7 @@ all_ones bits = 2 ^ bits - 1
 --   nullability         a bit for each column, lowest first: every column but the first may be Null
 
 -- a name: its length, its bytes, a zero
-abbrev pub name_form : List ℕ → Form BodyFault (Unit {0})
+unfoldable pub name_form : List ℕ → Form BodyFault (Unit {0})
 name_form name = do
   size ← One Table (constant (length name ∷ []))
   bytes ← One Table (constant name)

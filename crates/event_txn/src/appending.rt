@@ -1,10 +1,10 @@
 //! Fields at the end of what was written. Without memory a part may be put; what stood before stays.
 ghost use Rattle.std.specs.Prelude.{◌≡◌, ◌≤◌, ◌<◌, ◌++◌, length, OnOk, OnErr};
-ghost use Rattle.std.specs.Int.{w64, w128, to_le_bytes, to_be_bytes};
 ghost use Rattle.event_frame.specs.Fields.{packed_text};
 ghost use Rattle.event_txn.specs.Tables.{name_text, bitmap};
 ghost use Rattle.event_txn.specs.Writing.{Keeps};
 
+use crate::tables::length_byte;
 use std::alloc::AllocError;
 
 /// Puts these bytes.
@@ -14,22 +14,6 @@ pub fn put(out: &mut Vec<u8>, bytes: &[u8]) -> Result<(), AllocError>
     ensures err { OnErr result (Keeps out.old.items out.new.items) }
 {
     out.extend_from_slice(bytes)
-}
-
-/// Puts a number in eight bytes, lowest first.
-pub fn put_u64(out: &mut Vec<u8>, number: u64) -> Result<(), AllocError>
-    ensures ok { OnOk result (out.new.items ≡ out.old.items ++ to_le_bytes w64 number) }
-    ensures err { OnErr result (Keeps out.old.items out.new.items) }
-{
-    put(out, &number.to_le_bytes())
-}
-
-/// Puts a server's 16 bytes, highest first.
-pub fn put_server(out: &mut Vec<u8>, server: u128) -> Result<(), AllocError>
-    ensures ok { OnOk result (out.new.items ≡ out.old.items ++ to_be_bytes w128 server) }
-    ensures err { OnErr result (Keeps out.old.items out.new.items) }
-{
-    put(out, &server.to_be_bytes())
 }
 
 /// Puts a packed integer in its shortest form.
@@ -58,7 +42,7 @@ pub fn put_name(out: &mut Vec<u8>, name: &[u8]) -> Result<(), AllocError>
     ensures ok { OnOk result (out.new.items ≡ out.old.items ++ name_text name.now) }
     ensures err { OnErr result (Keeps out.old.items out.new.items) }
 {
-    put(out, &[name.len() as u8])?;
+    put(out, &length_byte(name))?;
     put(out, name)?;
     put(out, &[0])
 }

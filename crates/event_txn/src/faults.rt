@@ -5,11 +5,11 @@ ghost use Rattle.event_txn.specs.declared.faults.RowError.TheVariants.{Memory, F
 ghost use Rattle.event_txn.specs.declared.faults.TxnError.TheVariants as error;
 
 use event_frame::{FieldFault, FrameError};
-use std::alloc::{AllocError, AllocFailed};
+use std::alloc::AllocError;
 use thiserror::Error;
 
 /// Why a body is not one that may stand there: what kind of field its first fault is.
-#[derive(Clone, Copy, Debug, PartialEq, Eq)]
+#[derive(Clone, Copy)]
 pub enum BodyFault {
     /// A field that is cut, a packed integer that is not the shortest, bytes left over, and every
     /// field that is none of those below.
@@ -21,7 +21,7 @@ pub enum BodyFault {
 }
 
 /// Why a row was not read.
-#[derive(Debug, Drop)]
+#[derive(Drop)]
 pub enum RowError {
     Memory,
     Fault(BodyFault),
@@ -54,14 +54,6 @@ impl From<AllocError> for RowError {
     ghost from_gives = { λ _ e. e ≡ Memory };
 
     fn from(_error: AllocError) -> RowError {
-        RowError::Memory
-    }
-}
-
-impl<T: Drop> From<AllocFailed<T>> for RowError {
-    ghost from_gives = { λ _ e. e ≡ Memory };
-
-    fn from(_error: AllocFailed<T>) -> RowError {
         RowError::Memory
     }
 }

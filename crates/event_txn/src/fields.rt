@@ -1,11 +1,11 @@
 //! The fields of bodies, each with the fault that it is.
-ghost use Rattle.std.specs.Prelude.{◌≡◌, ◌==◌, ◌≤◌, ◌<◌, true, length, IfOk};
+ghost use Rattle.std.specs.Prelude.{◌≡◌, ◌≤◌, ◌<◌, true, length, IfOk};
 ghost use Rattle.std.specs.Int.{w64};
 ghost use Rattle.event_frame.specs.Forms.{found, front_of, ended};
 ghost use Rattle.event_frame.specs.Fields.{constant, number, server, packed, agrees};
 ghost use Rattle.event_frame.specs.Reading.{Gives};
 ghost use Rattle.ring_types.specs.Rows.{is_number};
-ghost use Rattle.event_txn.specs.Tables.{table_of_many};
+ghost use Rattle.event_txn.specs.Tables.{bitmap, table_of_many};
 ghost use Rattle.event_txn.specs.Rows.{nulls, bits_in, text_form};
 ghost use Rattle.event_txn.specs.declared.faults.BodyFault.TheVariants.{Field, Table, Value};
 
@@ -28,7 +28,6 @@ pub fn constant_at<'a>(
 }
 
 /// A server's 16 bytes.
-#[tactic(auto, using(crate::proofs::FieldFaults::found_again, crate::proofs::FieldFaults::fault_again))]
 pub fn server_at(bytes: &[u8]) -> Result<(u128, &[u8]), BodyFault>
     ensures { Gives (λ x. (x.0, x.1.now)) result (found Field Field (server.at bytes.now)) }
 {
@@ -50,7 +49,6 @@ pub fn number_at(bytes: &[u8]) -> Result<(u64, &[u8]), BodyFault>
 }
 
 /// Any eight bytes as a number.
-#[tactic(auto, using(crate::proofs::FieldFaults::found_again, crate::proofs::FieldFaults::fault_again))]
 pub fn long_at(bytes: &[u8], wrong: BodyFault) -> Result<(u64, &[u8]), BodyFault>
     ensures { Gives (λ x. (x.0, x.1.now)) result (found Field wrong ((number w64 (λ _. true)).at bytes.now)) }
 {
@@ -71,15 +69,25 @@ pub fn packed_at(bytes: &[u8]) -> Result<(u64, &[u8]), BodyFault>
     }
 }
 
-/// A number that was read and must be this one.
-pub fn agrees_at(bytes: &[u8], count: u64, due: u64) -> Result<&[u8], BodyFault>
-    ensures { Gives (λ x. (tt, x.now)) result (found Field Table ((agrees (count == due)).at bytes.now)) }
+/// Nothing is taken: what was read is what is due, or not.
+pub fn agrees_at(bytes: &[u8], is_due: bool, wrong: BodyFault) -> Result<&[u8], BodyFault>
+    ensures { Gives (λ x. (tt, x.now)) result (found Field wrong ((agrees is_due).at bytes.now)) }
 {
-    if count == due {
-        Ok(bytes)
-    } else {
-        Err(BodyFault::Table)
-    }
+    if is_due { Ok(bytes) } else { Err(wrong) }
+}
+
+/// The only bits that may stand there, in whole bytes.
+pub fn bitmap_at<'a>(
+    bytes: &'a [u8],
+    columns: usize,
+    bits: u64,
+    wrong: BodyFault,
+) -> Result<&'a [u8], BodyFault>
+    requires { columns ≤ 64 }
+    ensures { Gives (λ x. (tt, x.now)) result (found Field wrong ((constant (bitmap columns bits)).at bytes.now)) }
+{
+    let size = (columns + 7) / 8;
+    constant_at(bytes, &bits.to_le_bytes()[..size], wrong)
 }
 
 /// Nothing is left.
@@ -148,15 +156,7 @@ fn bits_in(bytes: &[u8]) -> u64
     requires { length bytes.now ≤ 8 }
     ensures { result ≡ bits_in bytes.now }
 {
-    match bytes {
-        [] => 0,
-        [a] => u64::from_le_bytes([*a, 0, 0, 0, 0, 0, 0, 0]),
-        [a, b] => u64::from_le_bytes([*a, *b, 0, 0, 0, 0, 0, 0]),
-        [a, b, c] => u64::from_le_bytes([*a, *b, *c, 0, 0, 0, 0, 0]),
-        [a, b, c, d] => u64::from_le_bytes([*a, *b, *c, *d, 0, 0, 0, 0]),
-        [a, b, c, d, e] => u64::from_le_bytes([*a, *b, *c, *d, *e, 0, 0, 0]),
-        [a, b, c, d, e, f] => u64::from_le_bytes([*a, *b, *c, *d, *e, *f, 0, 0]),
-        [a, b, c, d, e, f, g] => u64::from_le_bytes([*a, *b, *c, *d, *e, *f, *g, 0]),
-        [a, b, c, d, e, f, g, h, ..] => u64::from_le_bytes([*a, *b, *c, *d, *e, *f, *g, *h]),
-    }
+    let mut word = [0; 8];
+    word[..bytes.len()].copy_from_slice(bytes);
+    u64::from_le_bytes(word)
 }

@@ -1,10 +1,7 @@
 //! Row images: which values are Null, and the others.
 ghost use Rattle.std.specs.Prelude.{◌≤◌, length};
-ghost use Rattle.event_frame.specs.Forms.{front_of, found};
-ghost use Rattle.event_frame.specs.Fields.{agrees};
-ghost use Rattle.event_frame.specs.Reading.{Gives};
-ghost use Rattle.ring_types.specs.Rows.{same_value};
-ghost use Rattle.event_txn.specs.Rows.{image_form, image_with, key_form, values_form, values_with, cell_form, value_form};
+ghost use Rattle.event_frame.specs.Forms.{front_of};
+ghost use Rattle.event_txn.specs.Rows.{image_form, image_with, key_form, values_form, values_with, cell_form};
 ghost use Rattle.event_txn.specs.Reading.{Reads};
 ghost use Rattle.event_txn.specs.declared.faults.BodyFault.TheVariants as fault;
 
@@ -13,22 +10,6 @@ use crate::fields::*;
 use ring_plain::same_value;
 use ring_types::{Column, List, Shape, Text, Value};
 use std::alloc::Global;
-
-/// A value that is not Null.
-fn value_at(alloc: Global, bytes: &[u8], shape: Shape) -> Result<(Value, &[u8]), RowError>
-    ensures { Reads (λ x. (x.0, x.1.now)) result (front_of fault.Field (value_form shape) bytes.now) }
-{
-    match shape {
-        Shape::Int => {
-            let (number, rest) = long_at(bytes, BodyFault::Value)?;
-            Ok((Value::Int(number.cast_signed()), rest))
-        }
-        Shape::Text { limit } => {
-            let (text, rest) = text_at(bytes, limit)?;
-            Ok((Value::Text(Text::copy_of(alloc, text)?), rest))
-        }
-    }
-}
 
 /// A value, or Null.
 fn cell_at(
@@ -39,10 +20,16 @@ fn cell_at(
 ) -> Result<(Value, &[u8]), RowError>
     ensures { Reads (λ x. (x.0, x.1.now)) result (front_of fault.Field (cell_form null shape) bytes.now) }
 {
-    if null {
-        Ok((Value::Null, bytes))
-    } else {
-        value_at(alloc, bytes, shape)
+    match (null, shape) {
+        (true, _) => Ok((Value::Null, bytes)),
+        (false, Shape::Int) => {
+            let (number, rest) = long_at(bytes, BodyFault::Value)?;
+            Ok((Value::Int(number.cast_signed()), rest))
+        }
+        (false, Shape::Text { limit }) => {
+            let (text, rest) = text_at(bytes, limit)?;
+            Ok((Value::Text(Text::copy_of(alloc, text)?), rest))
+        }
     }
 }
 
@@ -81,7 +68,7 @@ fn values_with<'a>(
         [] => Ok((List::new(alloc), bytes)),
         [first, others @ ..] => {
             let (value, rest) = cell_at(alloc, bytes, bits % 2 == 1, first.shape)?;
-            let rest = same_at(rest, key, &value)?;
+            let rest = agrees_at(rest, same_value(key, &value), BodyFault::Value)?;
             let mut row = List::of_one(alloc, value)?;
             let (values, rest) = values_at(alloc, rest, others, bits / 2)?;
             row.append(values)?;
@@ -90,18 +77,8 @@ fn values_with<'a>(
     }
 }
 
-/// A key that was read and must be this one.
-fn same_at<'a>(bytes: &'a [u8], due: &Value, key: &Value) -> Result<&'a [u8], BodyFault>
-    ensures { Gives (λ x. (tt, x.now)) result (found fault.Field fault.Value ((agrees (same_value due.now key.now)).at bytes.now)) }
-{
-    if same_value(due, key) {
-        Ok(bytes)
-    } else {
-        Err(BodyFault::Value)
-    }
-}
-
 /// The row of these columns.
+#[tactic(auto, unfolding(crate::specs::Rows::image_form))]
 pub fn image_at<'a>(
     alloc: Global,
     bytes: &'a [u8],
@@ -115,6 +92,7 @@ pub fn image_at<'a>(
 }
 
 /// The row of these columns that has this key.
+#[tactic(auto, unfolding(crate::specs::Rows::image_with))]
 pub fn image_with<'a>(
     alloc: Global,
     bytes: &'a [u8],
@@ -140,7 +118,7 @@ pub fn key_at<'a>(
         [] => Ok((Value::Null, bytes)),
         [first, ..] => {
             let (_, rest) = nulls_at(bytes, 1)?;
-            value_at(alloc, rest, first.shape)
+            cell_at(alloc, rest, false, first.shape)
         }
     }
 }

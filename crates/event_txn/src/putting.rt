@@ -2,13 +2,13 @@
 ghost use Rattle.std.specs.Prelude.{◌≡◌, ◌≤◌, ◌<◌, ◌++◌, ◌∷◌, ◌^◌, [], true, length, OnOk, OnErr};
 ghost use Rattle.std.specs.Int.{to_le_bytes};
 ghost use Rattle.ring_types.specs.Rows.{key_of, key_fits_in, value_fits, values_fit, fits_table};
-ghost use Rattle.event_txn.specs.Tables.{description, columns_text, types_text, metadata_text, metadata_of, nullable, table_number};
-ghost use Rattle.event_txn.specs.Rows.{nulls_of, lead_of, value_text, values_text, image_text, rows_text, all_present, key_present, rows_body};
+ghost use Rattle.event_txn.specs.Tables.{description, columns_text, types_text, metadata_text, metadata_of};
+ghost use Rattle.event_txn.specs.Rows.{nulls_of, lead_of, value_text, values_text, image_text, rows_text, rows_body};
 ghost use Rattle.event_txn.specs.Writing.{Keeps};
 ghost use Rattle.ring_types.specs.declared.values.Change.TheVariants.{Insert, Update, Delete};
 
 use crate::appending::*;
-use crate::tables::{metadata_size, ones, type_of};
+use crate::tables::{metadata_size, ones, table_number, type_of};
 use ring_plain::is_null;
 use ring_types::{Change, Column, Schema, Shape, Table, Value};
 use std::alloc::AllocError;
@@ -42,17 +42,7 @@ fn put_columns(out: &mut Vec<u8>, table: &Table) -> Result<(), AllocError>
     put_types(out, columns)?;
     put_packed(out, metadata_size(table) as u64)?;
     put_metadata(out, columns)?;
-    put_nullable(out, columns.len())
-}
-
-fn put_nullable(out: &mut Vec<u8>, columns: usize) -> Result<(), AllocError>
-    requires some { 1 ≤ columns }
-    requires few { columns ≤ 64 }
-    ensures ok { OnOk result (out.new.items ≡ out.old.items ++ nullable columns) }
-    ensures err { OnErr result (Keeps out.old.items out.new.items) }
-{
-    let ones = ones(columns);
-    put_bitmap(out, columns, ones - 1)
+    put_bitmap(out, columns.len(), ones(columns.len()) - 1)
 }
 
 #[tactic(auto, using(crate::proofs::Kept::kept_on, crate::proofs::Kept::kept_more))]
@@ -106,19 +96,12 @@ fn put_text(out: &mut Vec<u8>, limit: u16, text: &[u8]) -> Result<(), AllocError
     ensures ok { OnOk result (out.new.items ≡ out.old.items ++ (to_le_bytes (lead_of limit) (length text.now) ++ text.now)) }
     ensures err { OnErr result (Keeps out.old.items out.new.items) }
 {
-    put_length(out, limit, text.len())?;
-    put(out, text)
-}
-
-fn put_length(out: &mut Vec<u8>, limit: u16, length: usize) -> Result<(), AllocError>
-    requires { length ≤ limit }
-    ensures ok { OnOk result (out.new.items ≡ out.old.items ++ to_le_bytes (lead_of limit) length) }
-    ensures err { OnErr result (Keeps out.old.items out.new.items) }
-{
     if limit < 256 {
-        put(out, &[length as u8])
+        put(out, &[text.len() as u8])?;
+        put(out, text)
     } else {
-        put(out, &(length as u16).to_le_bytes())
+        put(out, &(text.len() as u16).to_le_bytes())?;
+        put(out, text)
     }
 }
 
@@ -188,38 +171,9 @@ fn put_rows_head(out: &mut Vec<u8>, place: usize, table: &Table) -> Result<(), A
     ensures ok { OnOk result (out.new.items ≡ out.old.items ++ rows_text place table.now) }
     ensures err { OnErr result (Keeps out.old.items out.new.items) }
 {
-    put_table_number(out, place)?;
-    put(out, &[1, 0])?;
-    put(out, &[2, 0])?;
+    put(out, &table_number(place))?;
+    put(out, &[1, 0, 2, 0])?;
     put_packed(out, table.columns.len() as u64)
-}
-
-/// Puts the table's number in six bytes.
-pub fn put_table_number(out: &mut Vec<u8>, place: usize) -> Result<(), AllocError>
-    requires { place < 256 }
-    ensures ok { OnOk result (out.new.items ≡ out.old.items ++ table_number place) }
-    ensures err { OnErr result (Keeps out.old.items out.new.items) }
-{
-    let [a, b, c, d] = (place as u32 + 1).to_le_bytes();
-    put(out, &[a, b, c, d, 0, 0])
-}
-
-fn put_all_present(out: &mut Vec<u8>, table: &Table) -> Result<(), AllocError>
-    requires some { 1 ≤ length table.now.columns }
-    requires few { length table.now.columns ≤ 64 }
-    ensures ok { OnOk result (out.new.items ≡ out.old.items ++ all_present table.now) }
-    ensures err { OnErr result (Keeps out.old.items out.new.items) }
-{
-    let columns = table.columns.len();
-    put_bitmap(out, columns, ones(columns))
-}
-
-fn put_key_present(out: &mut Vec<u8>, table: &Table) -> Result<(), AllocError>
-    requires { length table.now.columns ≤ 64 }
-    ensures ok { OnOk result (out.new.items ≡ out.old.items ++ key_present table.now) }
-    ensures err { OnErr result (Keeps out.old.items out.new.items) }
-{
-    put_bitmap(out, table.columns.len(), 1)
 }
 
 #[tactic(auto, using(crate::proofs::Kept::kept_behind))]
@@ -236,9 +190,10 @@ fn put_insert(
     ensures ok { OnOk result (out.new.items ≡ out.old.items ++ rows_body place table.now (Insert [] row.now)) }
     ensures err { OnErr result (Keeps out.old.items out.new.items) }
 {
+    let columns = table.columns.as_slice();
     put_rows_head(out, place, table)?;
-    put_all_present(out, table)?;
-    put_image(out, table.columns.as_slice(), row)
+    put_bitmap(out, columns.len(), ones(columns.len()))?;
+    put_image(out, columns, row)
 }
 
 #[tactic(auto, using(crate::proofs::Kept::kept_behind))]
@@ -256,11 +211,12 @@ fn put_update(
     ensures ok { OnOk result (out.new.items ≡ out.old.items ++ rows_body place table.now (Update [] row.now)) }
     ensures err { OnErr result (Keeps out.old.items out.new.items) }
 {
+    let columns = table.columns.as_slice();
     put_rows_head(out, place, table)?;
-    put_key_present(out, table)?;
-    put_all_present(out, table)?;
-    put_first(out, table.columns.as_slice(), row)?;
-    put_image(out, table.columns.as_slice(), row)
+    put_bitmap(out, columns.len(), 1)?;
+    put_bitmap(out, columns.len(), ones(columns.len()))?;
+    put_first(out, columns, row)?;
+    put_image(out, columns, row)
 }
 
 /// Puts the image of the row's key alone.
@@ -283,9 +239,10 @@ fn put_delete(out: &mut Vec<u8>, place: usize, table: &Table, key: &Value) -> Re
     ensures ok { OnOk result (out.new.items ≡ out.old.items ++ rows_body place table.now (Delete [] key.now)) }
     ensures err { OnErr result (Keeps out.old.items out.new.items) }
 {
+    let columns = table.columns.as_slice();
     put_rows_head(out, place, table)?;
-    put_key_present(out, table)?;
-    put_key(out, table.columns.as_slice(), key)
+    put_bitmap(out, columns.len(), 1)?;
+    put_key(out, columns, key)
 }
 
 /// Puts the body that makes this change of the table.

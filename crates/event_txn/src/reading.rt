@@ -17,7 +17,7 @@ use ring_types::{Change, Duplicate, Gtid, List, Place, Schema, Table, Txn};
 use std::alloc::Global;
 
 /// A transaction that was read, and how many bytes its events take.
-#[derive(Debug, PartialEq, Eq, Drop)]
+#[derive(Drop)]
 pub struct TxnRead {
     pub txn: Txn,
     pub size: u64,

@@ -1,12 +1,12 @@
 //! The body that describes a table before its rows.
-ghost use Rattle.std.specs.Prelude.{◌≡◌, ◌≤◌, ◌<◌, true, length, IfOk};
-ghost use Rattle.event_frame.specs.Forms.{One, body_of, front_of, found};
+ghost use Rattle.std.specs.Prelude.{◌≡◌, ◌≤◌, ◌<◌, ◌∷◌, [], true, length, IfOk};
+ghost use Rattle.event_frame.specs.Forms.{One, body_of, front_of};
 ghost use Rattle.event_frame.specs.Fields.{constant};
 ghost use Rattle.event_frame.specs.Reading.{Gives};
 ghost use Rattle.std.specs.List.{list_all};
 ghost use Rattle.ring_types.specs.Rings.{is_schema, column_fits};
 ghost use Rattle.ring_types.specs.Sizes.{all_metadata};
-ghost use Rattle.event_txn.specs.Tables.{map_form, table_at, described, name_form, types_form, type_of, metadata_form, metadata_of, nullable, all_ones};
+ghost use Rattle.event_txn.specs.Tables.{map_form, table_at, table_number, described, name_form, types_form, type_of, metadata_form, metadata_of, all_ones};
 ghost use Rattle.event_txn.specs.declared.faults.BodyFault.TheVariants as fault;
 
 use crate::faults::BodyFault;
@@ -41,6 +41,23 @@ pub fn table_in(schema: &Schema, place: usize) -> &Table
     &tables[place]
 }
 
+/// A table's number, in six bytes.
+pub fn table_number(place: usize) -> [u8; 6]
+    requires { place < 256 }
+    ensures { result ≡ table_number place }
+{
+    let [a, b, c, d] = (place as u32 + 1).to_le_bytes();
+    [a, b, c, d, 0, 0]
+}
+
+/// The length of a name, in one byte.
+pub fn length_byte(name: &[u8]) -> [u8; 1]
+    requires { length name.now < 256 }
+    ensures { result ≡ length name.now ∷ [] }
+{
+    [name.len() as u8]
+}
+
 /// What the body says of the table.
 #[tactic(auto, unfolding(crate::specs::Tables::described))]
 fn described_at<'a>(bytes: &'a [u8], schema: &Schema, table: &Table) -> Result<&'a [u8], BodyFault>
@@ -55,20 +72,26 @@ fn described_at<'a>(bytes: &'a [u8], schema: &Schema, table: &Table) -> Result<&
     let rest = name_at(rest, schema.database.as_bytes())?;
     let rest = name_at(rest, table.name.as_bytes())?;
     let (count, rest) = packed_at(rest)?;
-    let rest = agrees_at(rest, count, columns.len() as u64)?;
+    let rest = agrees_at(rest, count == columns.len() as u64, BodyFault::Table)?;
     let rest = types_at(rest, columns)?;
     let (size, rest) = packed_at(rest)?;
-    let rest = agrees_at(rest, size, metadata_size(table) as u64)?;
+    let rest = agrees_at(rest, size == metadata_size(table) as u64, BodyFault::Table)?;
     let rest = metadata_at(rest, columns)?;
-    nullable_at(rest, columns.len())
+    bitmap_at(
+        rest,
+        columns.len(),
+        ones(columns.len()) - 1,
+        BodyFault::Table,
+    )
 }
 
 /// A name that is due: its length, its bytes, a zero.
+#[tactic(auto, unfolding(crate::specs::Tables::name_form))]
 fn name_at<'a>(bytes: &'a [u8], name: &[u8]) -> Result<&'a [u8], BodyFault>
     requires { length name.now < 256 }
     ensures { Gives (λ x. (tt, x.now)) result (front_of fault.Field (name_form name.now) bytes.now) }
 {
-    let rest = constant_at(bytes, &[name.len() as u8], BodyFault::Table)?;
+    let rest = constant_at(bytes, &length_byte(name), BodyFault::Table)?;
     let rest = constant_at(rest, name, BodyFault::Table)?;
     constant_at(rest, &[0], BodyFault::Table)
 }
@@ -128,17 +151,6 @@ pub fn metadata_size(table: &Table) -> usize
         };
     }
     size
-}
-
-/// All columns but the first may be Null.
-fn nullable_at(bytes: &[u8], columns: usize) -> Result<&[u8], BodyFault>
-    requires some { 1 ≤ columns }
-    requires few { columns ≤ 64 }
-    ensures { Gives (λ x. (tt, x.now)) result (found fault.Field fault.Table ((constant (nullable columns)).at bytes.now)) }
-{
-    let size = (columns + 7) / 8;
-    let ones = ones(columns);
-    constant_at(bytes, &(ones - 1).to_le_bytes()[..size], BodyFault::Table)
 }
 
 /// A number of this many ones.

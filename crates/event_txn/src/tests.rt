@@ -42,42 +42,23 @@ const INSERTED: [u8; 230] = [
     0, 0, 8, 24, 0xfa, 0x8a, //
 ];
 
-/// The same, if it updates row 1 to (1, null).
-const UPDATED: [u8; 238] = [
-    0, 0, 0, 0, 33, 1, 0, 0, 0, 65, 0, 0, 0, 50, 1, 0, //
-    0, 0, 0, 0, 62, 17, 0xfa, 71, 0x71, 0xca, 17, 0xe1, 0x9e, 51, 0xc8, 10, //
-    0xa9, 66, 0x95, 98, 1, 0, 0, 0, 0, 0, 0, 0, 2, 0, 0, 0, //
-    0, 0, 0, 0, 0, 1, 0, 0, 0, 0, 0, 0, 0, 18, 81, 0xd9, //
-    71, 0, 0, 0, 0, 2, 1, 0, 0, 0, 42, 0, 0, 0, 92, 1, //
-    0, 0, 0, 0, 0, 0, 0, 0, 0, 0, 0, 0, 0, 0, 0, 0, //
-    0, 0, 66, 69, 71, 73, 78, 0xc9, 98, 0x66, 0xa7, 0, 0, 0, 0, 19, //
-    1, 0, 0, 0, 46, 0, 0, 0, 0x8a, 1, 0, 0, 0, 0, 1, 0, //
-    0, 0, 0, 0, 1, 0, 3, 97, 0x70, 0x70, 0, 1, 0x74, 0, 2, 8, //
-    15, 2, 20, 0, 2, 0xd9, 94, 17, 0xcc, 0, 0, 0, 0, 31, 1, 0, //
-    0, 0, 54, 0, 0, 0, 0xc0, 1, 0, 0, 0, 0, 1, 0, 0, 0, //
-    0, 0, 1, 0, 2, 0, 2, 1, 3, 0, 1, 0, 0, 0, 0, 0, //
-    0, 0, 2, 1, 0, 0, 0, 0, 0, 0, 0, 92, 0x7c, 27, 83, 0, //
-    0, 0, 0, 16, 1, 0, 0, 0, 31, 0, 0, 0, 0xdf, 1, 0, 0, //
-    0, 0, 2, 0, 0, 0, 0, 0, 0, 0, 62, 6, 0xa3, 0xb9, //
+/// The events from the row on, if it updates row 1 to (1, null); those before are the same.
+const UPDATED: [u8; 85] = [
+    0, 0, 0, 0, 31, 1, 0, 0, 0, 54, 0, 0, 0, 0xc0, 1, 0, //
+    0, 0, 0, 1, 0, 0, 0, 0, 0, 1, 0, 2, 0, 2, 1, 3, //
+    0, 1, 0, 0, 0, 0, 0, 0, 0, 2, 1, 0, 0, 0, 0, 0, //
+    0, 0, 92, 0x7c, 27, 83, 0, 0, 0, 0, 16, 1, 0, 0, 0, 31, //
+    0, 0, 0, 0xdf, 1, 0, 0, 0, 0, 2, 0, 0, 0, 0, 0, 0, //
+    0, 62, 6, 0xa3, 0xb9, //
 ];
 
 /// The same, if it deletes row 1.
-const DELETED: [u8; 228] = [
-    0, 0, 0, 0, 33, 1, 0, 0, 0, 65, 0, 0, 0, 50, 1, 0, //
-    0, 0, 0, 0, 62, 17, 0xfa, 71, 0x71, 0xca, 17, 0xe1, 0x9e, 51, 0xc8, 10, //
-    0xa9, 66, 0x95, 98, 1, 0, 0, 0, 0, 0, 0, 0, 2, 0, 0, 0, //
-    0, 0, 0, 0, 0, 1, 0, 0, 0, 0, 0, 0, 0, 18, 81, 0xd9, //
-    71, 0, 0, 0, 0, 2, 1, 0, 0, 0, 42, 0, 0, 0, 92, 1, //
-    0, 0, 0, 0, 0, 0, 0, 0, 0, 0, 0, 0, 0, 0, 0, 0, //
-    0, 0, 66, 69, 71, 73, 78, 0xc9, 98, 0x66, 0xa7, 0, 0, 0, 0, 19, //
-    1, 0, 0, 0, 46, 0, 0, 0, 0x8a, 1, 0, 0, 0, 0, 1, 0, //
-    0, 0, 0, 0, 1, 0, 3, 97, 0x70, 0x70, 0, 1, 0x74, 0, 2, 8, //
-    15, 2, 20, 0, 2, 0xd9, 94, 17, 0xcc, 0, 0, 0, 0, 32, 1, 0, //
-    0, 0, 44, 0, 0, 0, 0xb6, 1, 0, 0, 0, 0, 1, 0, 0, 0, //
-    0, 0, 1, 0, 2, 0, 2, 1, 0, 1, 0, 0, 0, 0, 0, 0, //
-    0, 0xb5, 0x78, 59, 0x6e, 0, 0, 0, 0, 16, 1, 0, 0, 0, 31, 0, //
-    0, 0, 0xd5, 1, 0, 0, 0, 0, 2, 0, 0, 0, 0, 0, 0, 0, //
-    0xa5, 0xdc, 0x94, 0x6b, //
+const DELETED: [u8; 75] = [
+    0, 0, 0, 0, 32, 1, 0, 0, 0, 44, 0, 0, 0, 0xb6, 1, 0, //
+    0, 0, 0, 1, 0, 0, 0, 0, 0, 1, 0, 2, 0, 2, 1, 0, //
+    1, 0, 0, 0, 0, 0, 0, 0, 0xb5, 0x78, 59, 0x6e, 0, 0, 0, 0, //
+    16, 1, 0, 0, 0, 31, 0, 0, 0, 0xd5, 1, 0, 0, 0, 0, 2, //
+    0, 0, 0, 0, 0, 0, 0, 0xa5, 0xdc, 0x94, 0x6b, //
 ];
 
 fn inserted() -> &'static [u8] {
@@ -99,27 +80,31 @@ fn column(alloc: Global, name: &str, shape: Shape) -> Result<Column, Memory> {
     })
 }
 
-fn table(alloc: Global) -> Result<Table, Memory> {
+fn columns(alloc: Global) -> Result<List<Column>, Memory> {
     let mut columns = List::of_one(alloc, column(alloc, "id", Shape::Int)?)?;
     columns.push(column(alloc, "name", Shape::Text { limit: 20 })?)?;
-    Ok(Table {
-        name: Text::copy_of(alloc, "t")?,
-        columns,
-    })
+    Ok(columns)
+}
+
+fn table(alloc: Global) -> Result<Table, Memory> {
+    let name = Text::copy_of(alloc, "t")?;
+    let columns = columns(alloc)?;
+    Ok(Table { name, columns })
 }
 
 fn member(alloc: Global) -> Result<MemberPart, Memory> {
+    let region = Text::copy_of(alloc, "east")?;
     Ok(MemberPart {
         id: 1,
-        region: Text::copy_of(alloc, "east")?,
+        region,
         kind: Kind::Full,
         server: SERVER,
         address: None,
     })
 }
 
-/// A ring of one node.
-fn ring(rt: &impl Abort, alloc: Global) -> Result<Ring, Fail> {
+/// A ring of one node with these tables.
+fn ring(rt: &impl Abort, alloc: Global, tables: List<Table>) -> Result<Ring, Fail> {
     let parts = RingParts {
         home: Text::copy_of(alloc, "east")?,
         regions: List::of_one(alloc, Text::copy_of(alloc, "east")?)?,
@@ -127,11 +112,16 @@ fn ring(rt: &impl Abort, alloc: Global) -> Result<Ring, Fail> {
         clients: List::new(alloc),
         schema: Schema {
             database: Text::copy_of(alloc, "app")?,
-            tables: List::of_one(alloc, table(alloc)?)?,
+            tables,
         },
     };
     assert!(rt; parts.is_in_range());
     Ok(Ring::build(alloc, parts)?)
+}
+
+/// A ring of one node with the table `t`.
+fn ring_of_one(rt: &impl Abort, alloc: Global) -> Result<Ring, Fail> {
+    ring(rt, alloc, List::of_one(alloc, table(alloc)?)?)
 }
 
 fn schema_of(ring: &Ring) -> &Schema
@@ -142,14 +132,12 @@ fn schema_of(ring: &Ring) -> &Schema
 }
 
 fn txn(alloc: Global, change: Change) -> Result<Txn, Memory> {
+    let changes = List::of_one(alloc, change)?;
     let gtid = Gtid {
         server: SERVER,
         number: 1,
     };
-    Ok(Txn {
-        gtid,
-        changes: List::of_one(alloc, change)?,
-    })
+    Ok(Txn { gtid, changes })
 }
 
 fn row(alloc: Global, key: i64, name: Value) -> Result<List<Value>, Memory> {
@@ -203,26 +191,35 @@ fn reads(
     Ok(())
 }
 
-/// Expects that the transaction of this change has these events, and no other.
+/// Expects that the transaction of this change has these events from the row on, and no other.
 fn goes_both_ways(
     rt: &impl Abort,
     alloc: Global,
+    schema: &Schema,
     change: Change,
-    events: &[u8],
-) -> Result<(), Fail> {
-    let ring = ring(rt, alloc)?;
+    behind: &[u8],
+) -> Result<(), Fail>
+    requires { is_schema schema.now ≡ true }
+{
+    let mut events = Vec::new(alloc);
+    events.extend_from_slice(inserted().get(..153).unwrap_or(&[]))?;
+    events.extend_from_slice(behind)?;
     let txn = txn(alloc, change)?;
-    let out = written(rt, alloc, schema_of(&ring), &txn)?;
-    assert_eq!(rt; out.as_slice(), events);
-    reads(rt, alloc, schema_of(&ring), events, &txn)?;
+    let out = written(rt, alloc, schema, &txn)?;
+    assert_eq!(rt; out.as_slice(), events.as_slice());
+    reads(rt, alloc, schema, events.as_slice(), &txn)?;
     Ok(())
 }
 
 #[test]
 fn each_change_both_ways(rt: HostRuntime) -> Result<(), Fail> {
-    goes_both_ways(&rt, rt.alloc(), insert(rt.alloc())?, inserted())?;
-    goes_both_ways(&rt, rt.alloc(), update(rt.alloc())?, updated())?;
-    goes_both_ways(&rt, rt.alloc(), delete(rt.alloc())?, deleted())
+    let alloc = rt.alloc();
+    let ring = ring_of_one(&rt, alloc)?;
+    let schema = schema_of(&ring);
+    let behind = inserted().get(153..).unwrap_or(&[]);
+    goes_both_ways(&rt, alloc, schema, insert(alloc)?, behind)?;
+    goes_both_ways(&rt, alloc, schema, update(alloc)?, updated())?;
+    goes_both_ways(&rt, alloc, schema, delete(alloc)?, deleted())
 }
 
 /// A change of one of the bodies: the event, where in its body, how many bytes go, which come in
@@ -308,61 +305,92 @@ fn with(
 fn refuses(
     rt: &impl Abort,
     alloc: Global,
+    schema: &Schema,
     bytes: &[u8],
     place: Place,
     wanted: TxnError,
-) -> Result<(), Fail> {
-    let ring = ring(rt, alloc)?;
-    let answer = read_txn(alloc, schema_of(&ring), bytes, 2, place).err();
+)
+    requires { is_schema schema.now ≡ true }
+{
+    let answer = read_txn(alloc, schema, bytes, 2, place).err();
     assert_eq!(rt; answer, Some(wanted));
-    Ok(())
 }
 
-fn refuses_edit(rt: &impl Abort, alloc: Global, edit: &Edit) -> Result<(), Fail> {
+fn refuses_edit(rt: &impl Abort, alloc: Global, schema: &Schema, edit: &Edit) -> Result<(), Fail>
+    requires { is_schema schema.now ≡ true }
+{
     let (event, at, gone, put, fault) = edit;
     let (kind, begin, end) = bodies().get(*event).ok_or("no such event")?;
     let old = inserted().get(*begin..*end).unwrap_or(&[]);
     let body = edited(alloc, old, *at, *gone, put)?;
     let bytes = with(rt, alloc, *event, *kind, body.as_slice())?;
     let wanted = fault_at((*begin as u64).wrapping_sub(19), *fault);
-    refuses(rt, alloc, bytes.as_slice(), PLACE, wanted)
+    refuses(rt, alloc, schema, bytes.as_slice(), PLACE, wanted);
+    Ok(())
 }
 
 #[test]
 fn refuses_each_small_change(rt: HostRuntime) -> Result<(), Fail> {
+    let ring = ring_of_one(&rt, rt.alloc())?;
     for edit in edits() {
-        refuses_edit(&rt, rt.alloc(), edit)?;
+        refuses_edit(&rt, rt.alloc(), schema_of(&ring), edit)?;
     }
     Ok(())
 }
 
-fn refuses_other_type(rt: &impl Abort, alloc: Global, event: usize, at: u64) -> Result<(), Fail> {
-    let bytes = with(rt, alloc, event, 28, &[])?;
-    refuses(rt, alloc, bytes.as_slice(), PLACE, TxnError::Order { at })
+#[test]
+fn refuses_each_event_of_another_type(rt: HostRuntime) -> Result<(), Fail> {
+    let ring = ring_of_one(&rt, rt.alloc())?;
+    for (event, (_, begin, _)) in bodies().iter().enumerate() {
+        let bytes = with(&rt, rt.alloc(), event, 28, &[])?;
+        let wanted = TxnError::Order {
+            at: (*begin as u64).wrapping_sub(19),
+        };
+        let schema = schema_of(&ring);
+        refuses(&rt, rt.alloc(), schema, bytes.as_slice(), PLACE, wanted);
+    }
+    Ok(())
 }
 
+/// Expects that no transaction begins at this place in the log of a ring with these tables.
+fn refuses_gtid(
+    rt: &impl Abort,
+    alloc: Global,
+    tables: List<Table>,
+    place: Place,
+) -> Result<(), Fail> {
+    let ring = ring(rt, alloc, tables)?;
+    let wanted = TxnError::Order { at: 0 };
+    refuses(rt, alloc, schema_of(&ring), inserted(), place, wanted);
+    Ok(())
+}
+
+/// A transaction has a number within its file, from 1 on.
 #[test]
-fn refuses_what_is_not_due(rt: HostRuntime) -> Result<(), Fail> {
-    let alloc = rt.alloc();
-    refuses_other_type(&rt, alloc, 0, 0)?;
-    refuses_other_type(&rt, alloc, 1, 65)?;
-    refuses_other_type(&rt, alloc, 2, 107)?;
-    refuses_other_type(&rt, alloc, 3, 153)?;
-    refuses_other_type(&rt, alloc, 4, 199)?;
+fn refuses_a_transaction_without_a_number(rt: HostRuntime) -> Result<(), Fail> {
     let place = Place {
         file: 1,
         at: 241,
         sequence: 0,
     };
-    refuses(&rt, alloc, inserted(), place, TxnError::Order { at: 0 })
+    let tables = List::of_one(rt.alloc(), table(rt.alloc())?)?;
+    refuses_gtid(&rt, rt.alloc(), tables, place)
+}
+
+/// A transaction has a table to change.
+#[test]
+fn refuses_a_transaction_without_a_table(rt: HostRuntime) -> Result<(), Fail> {
+    refuses_gtid(&rt, rt.alloc(), List::new(rt.alloc()), PLACE)
 }
 
 #[test]
 fn refuses_a_cut_event(rt: HostRuntime) -> Result<(), Fail> {
+    let ring = ring_of_one(&rt, rt.alloc())?;
     let cut = inserted().get(..229).unwrap_or(&[]);
     let wanted = TxnError::Frame {
         at: 199,
         fault: FrameError::Short,
     };
-    refuses(&rt, rt.alloc(), cut, PLACE, wanted)
+    refuses(&rt, rt.alloc(), schema_of(&ring), cut, PLACE, wanted);
+    Ok(())
 }

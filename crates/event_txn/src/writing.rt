@@ -2,6 +2,7 @@
 ghost use Rattle.std.specs.Prelude.{◌≡◌, ℕ, ◌≤◌, ◌<◌, ◌+◌, ◌%◌, ◌^◌, ◌++◌, true, length, OnOk, OnErr, IfOk, Some};
 ghost use Rattle.std.specs.List.{list_all};
 ghost use Rattle.event_frame.specs.Events.{event, size_of};
+ghost use Rattle.event_frame.specs.declared.frames.TheConstants.{MOST_BODY_BYTES};
 ghost use Rattle.ring_types.specs.Rings.{is_schema, column_fits};
 ghost use Rattle.ring_types.specs.Rows.{changes_fit, change_fits, fits_table, place_in, table_name};
 ghost use Rattle.event_txn.specs.Bodies.{gtid_body, begin_body, xid_body};
@@ -11,39 +12,35 @@ ghost use Rattle.event_txn.specs.Txns.{txn_events, change_bodies, changes_bodies
 ghost use Rattle.event_txn.specs.Writing.{Keeps};
 
 use crate::appending::*;
-use crate::putting::{put_change_body, put_description, put_table_number};
-use crate::tables::table_in;
+use crate::putting::{put_change_body, put_description};
+use crate::tables::{table_in, table_number};
 use event_frame::{put_header, put_sum, write_event};
 use ring_plain::{place_in, rows_event_size, table_map_size, table_name};
 use ring_types::{Change, Gtid, Memory, Place, Schema, Table, Txn};
 
 /// Puts the GTID event.
-#[tactic(auto, using(crate::proofs::Puts::event_put, crate::proofs::Lengths::gtid_length, crate::proofs::Kept::kept_behind, crate::proofs::Kept::kept_same))]
+#[tactic(auto, using(crate::proofs::Kept::kept_same))]
 fn put_gtid(out: &mut Vec<u8>, gtid: Gtid, sequence: u64, at: u64) -> Result<(), Memory>
     requires { 1 ≤ sequence }
     ensures ok { OnOk result (out.new.items ≡ out.old.items ++ event 33 0 (gtid_body sequence gtid) at) }
     ensures err { OnErr result (Keeps out.old.items out.new.items) }
 {
-    let begin = out.len();
-    put_header(out, 33, 0, 42, at)?;
-    put_gtid_body(out, gtid, sequence)?;
-    put_sum(out, begin)?;
-    Ok(())
+    write_event(out, 33, 0, &gtid_body(gtid, sequence), at)
 }
 
-#[tactic(auto, using(crate::proofs::Kept::kept_behind))]
-fn put_gtid_body(out: &mut Vec<u8>, gtid: Gtid, sequence: u64) -> Result<(), Memory>
+#[tactic(auto, unfolding(crate::specs::Bodies::gtid_body))]
+fn gtid_body(gtid: Gtid, sequence: u64) -> [u8; 42]
     requires { 1 ≤ sequence }
-    ensures ok { OnOk result (out.new.items ≡ out.old.items ++ gtid_body sequence gtid) }
-    ensures err { OnErr result (Keeps out.old.items out.new.items) }
+    ensures { result ≡ gtid_body sequence gtid }
 {
-    put(out, &[0])?;
-    put_server(out, gtid.server)?;
-    put_u64(out, gtid.number)?;
-    put(out, &[2])?;
-    put_u64(out, sequence - 1)?;
-    put_u64(out, sequence)?;
-    Ok(())
+    let [a, b, c, d, e, f, g, h, i, j, k, l, m, n, o, p] = gtid.server.to_be_bytes();
+    let [q, r, s, t, u, v, w, x] = gtid.number.to_le_bytes();
+    let [a1, b1, c1, d1, e1, f1, g1, h1] = (sequence - 1).to_le_bytes();
+    let [a2, b2, c2, d2, e2, f2, g2, h2] = sequence.to_le_bytes();
+    [
+        0, a, b, c, d, e, f, g, h, i, j, k, l, m, n, o, p, q, r, s, t, u, v, w, x, 2, a1, b1, c1,
+        d1, e1, f1, g1, h1, a2, b2, c2, d2, e2, f2, g2, h2,
+    ]
 }
 
 /// Puts the event that says BEGIN.
@@ -87,7 +84,7 @@ fn map_size(schema: &Schema, place: usize) -> u32
     requires schema { is_schema schema.now ≡ true }
     requires place { place < length schema.now.tables }
     ensures size { result ≡ length (map_body schema.now place) }
-    ensures small { result < 2 ^ 24 }
+    ensures small { result ≤ MOST_BODY_BYTES }
 {
     table_map_size(schema, table_in(schema, place)) as u32 - 23
 }
@@ -99,7 +96,7 @@ fn put_map_body(out: &mut Vec<u8>, schema: &Schema, place: usize) -> Result<(), 
     ensures ok { OnOk result (out.new.items ≡ out.old.items ++ map_body schema.now place) }
     ensures err { OnErr result (Keeps out.old.items out.new.items) }
 {
-    put_table_number(out, place)?;
+    put(out, &table_number(place))?;
     put_description(out, schema, table_in(schema, place))
 }
 
@@ -147,7 +144,7 @@ fn row_size(table: &Table, change: &Change) -> u32
     requires few { length table.now.columns ≤ 64 }
     requires fits { fits_table table.now change.now ≡ true }
     ensures size { (place : ℕ) → result ≡ length (rows_body place table.now change.now) }
-    ensures small { result < 2 ^ 24 }
+    ensures small { result ≤ MOST_BODY_BYTES }
 {
     rows_event_size(table, change) as u32 - 23
 }
