@@ -1,4 +1,4 @@
-use Rattle.std.proofs.lemmas.Result.{err_from_is_err_and, on_err_weaker}
+use Rattle.std.proofs.lemmas.Result.{on_err_weaker}
 use Rattle.event_txn.proofs.Kept.{kept_behind}
 use Rattle.event_txn.proofs.writing.put_map_body.Goals as goal
 
