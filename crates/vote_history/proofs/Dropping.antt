@@ -21,7 +21,8 @@ few : (floor : ℕ) (votes : List Vote) → length (votes_above floor votes) ≤
 few floor [] = omega arith
 few floor (v ∷ votes) = go (nat_lt floor v.term) (few floor votes)
   where
-    go : (b : Bool) → length (votes_above floor votes) ≤ length votes → length (if b then v ∷ votes_above floor votes else votes_above floor votes) ≤ suc (length votes)
+    go : (b : Bool) → length (votes_above floor votes) ≤ length votes
+        → length (if b then v ∷ votes_above floor votes else votes_above floor votes) ≤ suc (length votes)
     go true h = omega arith
     go false h = omega arith
 
@@ -30,10 +31,12 @@ last-ones floor [] h = refl
 last-ones floor (v ∷ votes) h = go (nat_lt floor v.term) refl (last-ones floor votes h.1)
   where
     go : (b : Bool) → nat_lt floor v.term ≡ b → drop (length votes - length (votes_above floor votes)) votes ≡ votes_above floor votes
-        → drop (suc (length votes) - length (if b then v ∷ votes_above floor votes else votes_above floor votes)) (v ∷ votes) ≡ (if b then v ∷ votes_above floor votes else votes_above floor votes)
+        → drop (suc (length votes) - length (if b then v ∷ votes_above floor votes else votes_above floor votes)) (v ∷ votes)
+        ≡ (if b then v ∷ votes_above floor votes else votes_above floor votes)
     go true is more =
         let over : floor < v.term = grind (arith, nat_tests) in
-        let all = all-above floor votes (weaker (λ (w : Vote). v.term < w.term) (λ (w : Vote). floor < w.term) votes (λ w up. (let z : floor < w.term = omega arith in z)) h.0) in
+        let all = all-above floor votes (weaker (λ (w : Vote). v.term < w.term) (λ (w : Vote). floor < w.term) votes
+        (λ w up. (let z : floor < w.term = omega arith in z)) h.0) in
         let size : length (votes_above floor votes) ≡ length votes = ap length all in
         let none : suc (length votes) - suc (length (votes_above floor votes)) ≡ 0 = omega arith in
         ap (λ (k : ℕ). drop k (v ∷ votes)) none ∙ ap (λ (vs : List Vote). v ∷ vs) (sym all)
@@ -64,11 +67,13 @@ rising-above floor (v ∷ votes) h = go (nat_lt floor v.term) (rising-above floo
     filtered [] h = tt
     filtered (x ∷ vs) h = by (nat_lt floor x.term) (filtered vs h.1)
       where
-        by : (b : Bool) → AllByRecursion (λ (w : Vote). v.term < w.term) (votes_above floor vs) → AllByRecursion (λ (w : Vote). v.term < w.term) (if b then x ∷ votes_above floor vs else votes_above floor vs)
+        by : (b : Bool) → AllByRecursion (λ (w : Vote). v.term < w.term) (votes_above floor vs)
+            → AllByRecursion (λ (w : Vote). v.term < w.term) (if b then x ∷ votes_above floor vs else votes_above floor vs)
         by true more = (h.0, more)
         by false more = more
 
-    go : (b : Bool) → AreRising (votes_above floor votes) → AllByRecursion (λ (w : Vote). v.term < w.term) (votes_above floor votes) → AreRising (if b then v ∷ votes_above floor votes else votes_above floor votes)
+    go : (b : Bool) → AreRising (votes_above floor votes) → AllByRecursion (λ (w : Vote). v.term < w.term) (votes_above floor votes)
+        → AreRising (if b then v ∷ votes_above floor votes else votes_above floor votes)
     go true more all = (all, more)
     go false more all = more
 
@@ -81,6 +86,7 @@ rising-more [] w h below = (tt, tt)
 rising-more (v ∷ votes) w h below =
     (all-more (λ (x : Vote). v.term < x.term) votes w h.0 (below 0 v (omega arith)), rising-more votes w h.1 (λ k d inside. below (suc k) d (omega arith)))
 
-pub rising-if : (pushed : Bool) (votes : List Vote) (w : Vote) → AreRising votes → All (λ (v : Vote). v.term < w.term) votes → AreRising (if pushed then votes ++ w ∷ [] else votes)
+pub rising-if : (pushed : Bool) (votes : List Vote) (w : Vote) → AreRising votes → All (λ (v : Vote). v.term < w.term) votes
+    → AreRising (if pushed then votes ++ w ∷ [] else votes)
 rising-if true votes w h below = rising-more votes w h below
 rising-if false votes w h below = h

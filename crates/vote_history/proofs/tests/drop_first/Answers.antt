@@ -7,4 +7,5 @@ use Rattle.vote_history.proofs.tests.drop_first.Goals as goal
 
 pub returns : goal.returns
 returns c =
-    subst (All (λ (v : Vote). v.term ≤ c.args.last)) (sym c.drop_to.ensures) (All-filter (λ (v : Vote). nat_lt 1 v.term) (λ (v : Vote). v.term ≤ c.args.last) c.args.history.now c.requires)
+    subst (All (λ (v : Vote). v.term ≤ c.args.last)) (sym c.drop_to.ensures)
+    (All-filter (λ (v : Vote). nat_lt 1 v.term) (λ (v : Vote). v.term ≤ c.args.last) c.args.history.now c.requires)
