@@ -1,0 +1,9 @@
+-- the map
+pub mod Ties
+pub mod Holding
+pub mod Held
+-- the list
+pub mod Moving
+-- the laws
+pub mod Following
+pub mod Unheld
