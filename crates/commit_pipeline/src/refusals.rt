@@ -3,16 +3,18 @@ ghost use Rattle.std.specs.Prelude.{◌≡◌, ◌-◌, ◌<◌, ◌∷◌, [], 
 ghost use Rattle.ring_types.specs.Rows as rows;
 ghost use Rattle.ring_model.specs.Replication.{file_limit, file_number};
 ghost use Rattle.ring_model.specs.Writes as spec;
+ghost use Rattle.commit_pipeline.specs.Engines.{engine_tables};
 
 use crate::actions::holder_of;
 use crate::roles::{is_leader, is_ready};
 use crate::steps::stepped;
 use ring_model::{Cause, Durable, Say, Soft, Step, Transfer, What};
-use ring_plain::{Tables, check, group_size, next_number, table_name};
+use ring_plain::{group_size, next_number, table_name};
 use ring_types::{
     Change, Duplicate, Entry, GROUP_BYTES, Gtid, LAST_FILE, List, Memory, NodeId, Pair, Payload,
     Ring, TERM_END, Txn, Value, rotates,
 };
+use row_engine::Tables;
 use std::alloc::Global;
 
 /// The step in which one refusal is said to a client, and nothing else happens.
@@ -149,13 +151,13 @@ fn change_refusal(
     tables: &Tables,
     changes: &List<Change>,
 ) -> Result<Option<Cause>, Memory>
-    requires { tables.now ≡ spec.committed_rows ring.now durable.now }
+    requires { tables.now ≡ engine_tables ring.now durable.now }
     ensures value { IfOk result (λ it. it ≡ spec.change_refusal ring.now me durable.now changes.now) }
     ensures length { IfOk result (λ it. it ≡ None → length durable.now.log < TERM_END - 1) }
 {
-    match check(alloc, ring.schema(), tables.as_slice(), changes.as_slice())? {
-        Some(refusal) => Ok(Some(Cause::Invalid(refusal))),
-        None => lock_refusal(alloc, ring, me, durable, changes),
+    match tables.check(changes) {
+        Err(refusal) => Ok(Some(Cause::Invalid(refusal))),
+        Ok(()) => lock_refusal(alloc, ring, me, durable, changes),
     }
 }
 
@@ -170,7 +172,7 @@ pub(crate) fn write_refusal(
     tables: &Tables,
     changes: &List<Change>,
 ) -> Result<Option<Cause>, Memory>
-    requires { tables.now ≡ spec.committed_rows ring.now durable.now }
+    requires { tables.now ≡ engine_tables ring.now durable.now }
     ensures value { IfOk result (λ it. it ≡ spec.write_refusal ring.now me durable.now soft.now changes.now) }
     ensures length { IfOk result (λ it. it ≡ None → length durable.now.log < TERM_END - 1) }
 {

@@ -1,13 +1,14 @@
 ghost use Rattle.std.specs.Prelude.{◌≡◌, ◌∷◌, [], IfOk};
 ghost use Rattle.ring_model.specs.Writes as spec;
+ghost use Rattle.commit_pipeline.specs.Engines.{engine_tables};
 ghost use Rattle.ring_model.specs.declared.effects.Action.TheVariants as action;
 
 use crate::advances::{advance, own_entry, with_append};
 use crate::refusals::{refused, write_refusal, write_txn};
 use crate::steps::Begun;
 use ring_model::{Action, Durable, Pending, Soft, Step};
-use ring_plain::Tables;
 use ring_types::{Change, Duplicate, Entry, Gtid, List, Memory, NodeId, Pair, Payload, Ring, Txn};
+use row_engine::Tables;
 use std::alloc::Global;
 
 fn awaits(soft: Soft, client: u32, entry: &Entry, gtid: Gtid) -> Result<Soft, Memory>
@@ -53,8 +54,8 @@ fn write_entry_step(
 }
 
 /// The step of a client's write: the first refusal, or the transaction prepared and its entry added,
-/// and the client waits for its commit. `tables` are the rows that the engine has applied, which the
-/// caller keeps.
+/// and the client waits for its commit. `tables` are those of the node's engine, which the caller
+/// keeps.
 #[tactic(auto, unfolding(ring_model::specs::Writes::write))]
 pub fn write(
     alloc: Global,
@@ -66,7 +67,7 @@ pub fn write(
     client: u32,
     changes: &List<Change>,
 ) -> Result<Step, Memory>
-    requires { tables.now ≡ spec.committed_rows ring.now durable.now }
+    requires { tables.now ≡ engine_tables ring.now durable.now }
     ensures { IfOk result (λ it. it ≡ spec.write ring.now me durable.now soft client changes.now) }
 {
     match write_refusal(alloc, ring, me, durable, &soft, tables, changes)? {

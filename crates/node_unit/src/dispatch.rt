@@ -1,5 +1,5 @@
 ghost use Rattle.std.specs.Prelude.{◌≡◌, IfOk};
-ghost use Rattle.ring_model.specs.Writes.{committed_rows};
+ghost use Rattle.commit_pipeline.specs.Engines.{engine_tables};
 ghost use Rattle.ring_model.specs.Transfers as transfers;
 ghost use Rattle.ring_model.specs.Dispatch as spec;
 
@@ -9,8 +9,8 @@ use election_core::{elect, on_reply, on_request};
 use proxy_core::relay;
 use replicate_core::{beat, on_ack, on_append};
 use ring_model::{AppendReply, Body, Durable, Input, Message, Soft, Step};
-use ring_plain::Tables;
 use ring_types::{Duplicate, Memory, NodeId, Ring};
+use row_engine::Tables;
 use std::alloc::Global;
 use transfer_core::{
     after_ack, ask_transfer, cancel, on_mock_reply, on_mock_request, on_mock_result, on_mock_start,
@@ -64,7 +64,7 @@ fn body_step(
     from: u32,
     body: &Body,
 ) -> Result<Step, Memory>
-    requires { tables.now ≡ committed_rows ring.now durable.now }
+    requires { tables.now ≡ engine_tables ring.now durable.now }
     ensures { IfOk result (λ it. it ≡ spec.body_step ring.now me durable.now soft from body.now) }
 {
     let sender = NodeId(from);
@@ -101,7 +101,7 @@ fn deliver(
     tables: &Tables,
     message: &Message,
 ) -> Result<Step, Memory>
-    requires { tables.now ≡ committed_rows ring.now durable.now }
+    requires { tables.now ≡ engine_tables ring.now durable.now }
     ensures { IfOk result (λ it. it ≡ spec.deliver ring.now me durable.now soft message.now) }
 {
     if is_foreign(ring, me, message) {
@@ -123,7 +123,7 @@ pub fn step(
     tables: &Tables,
     input: &Input,
 ) -> Result<Step, Memory>
-    requires { tables.now ≡ committed_rows ring.now durable.now }
+    requires { tables.now ≡ engine_tables ring.now durable.now }
     ensures { IfOk result (λ it. it ≡ spec.step ring.now me durable.now soft.now input.now) }
 {
     let soft = soft.copy(alloc)?;

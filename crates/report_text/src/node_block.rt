@@ -127,6 +127,7 @@ fn put_gtids_line(alloc: Global, out: &mut Vec<u8>, log: &[Entry]) -> Result<(),
     put(out, b"\n")
 }
 
+#[tactic(auto, using(row_engine::proofs::Names::names_once, row_engine::proofs::Names::tables_few))]
 fn put_engine_text(
     alloc: Global,
     out: &mut Vec<u8>,
@@ -135,6 +136,7 @@ fn put_engine_text(
 ) -> Result<(), Memory>
     ensures { OnOk result (out.new.items ≡ out.old.items ++ spec.engine_text ring.now node.now) }
 {
+    ring.law_built();
     if ring.runs_engine(node.node) {
         put_applied_tables(alloc, out, ring.schema(), &node.durable)
     } else {
@@ -160,6 +162,7 @@ pub(crate) fn put_block(
     put_engine_text(alloc, out, ring, node)
 }
 
+#[tactic(auto, using(row_engine::proofs::Names::names_once, row_engine::proofs::Names::tables_few))]
 fn put_engine_lines(
     alloc: Global,
     out: &mut Vec<u8>,
@@ -168,6 +171,7 @@ fn put_engine_lines(
 ) -> Result<(), Memory>
     ensures { OnOk result (out.new.items ≡ out.old.items ++ spec.engine_lines ring.now node.now) }
 {
+    ring.law_built();
     if ring.runs_engine(node.node) {
         put_counted_tables(alloc, out, ring.schema(), &node.durable)
     } else {

@@ -1,13 +1,14 @@
-ghost use Rattle.std.specs.Prelude.{◌≡◌, ◌+◌, ◌^◌, ◌<◌, ◌++◌, IfOk, OnOk, length, take};
+ghost use Rattle.std.specs.Prelude.{◌≡◌, ◌+◌, ◌^◌, ◌<◌, ◌≤◌, ◌++◌, IfOk, OnOk, drop, length, take};
 ghost use Rattle.std.specs.List.{flat_map};
 ghost use Rattle.ring_types.specs.Rows as made;
+ghost use Rattle.row_engine.specs.Filled.{AreNamedOnce};
 ghost use Rattle.report_text.specs.Report as spec;
 
 use crate::appending::{put, put_field};
 use crate::words::put_value;
 use ring_model::Durable;
-use ring_plain::{Tables, rows};
-use ring_types::{List, Memory, Schema, Table, Value};
+use ring_types::{List, MOST_TABLES, Memory, Schema, Table, Value};
+use row_engine::Tables;
 use std::alloc::Global;
 
 fn put_values(out: &mut Vec<u8>, row: &[Value]) -> Result<(), Memory>
@@ -55,39 +56,33 @@ fn put_table(out: &mut Vec<u8>, table: &Table, rows: &[List<Value>]) -> Result<(
     put_row_lines(out, rows)
 }
 
-fn rows_at(tables: &[List<List<Value>>], place: usize) -> &[List<Value>]
-    ensures { result.now ≡ made.rows_at tables.now place }
-{
-    match tables.get(place) {
-        Some(rows) => rows.as_slice(),
-        None => &[],
-    }
-}
-
+#[tactic(auto, using(row_engine::proofs::Names::named_at))]
 fn put_tables(
     out: &mut Vec<u8>,
     declared: &[Table],
-    tables: &[List<List<Value>>],
+    tables: &Tables,
     place: usize,
 ) -> Result<(), Memory>
-    requires { place + length declared.now < 2 ^ 64 }
-    ensures { OnOk result (out.new.items ≡ out.old.items ++ spec.tables_from place declared.now tables.now) }
+    requires once { AreNamedOnce tables.now.schema }
+    requires declared { declared.now ≡ drop place tables.now.schema.tables }
+    requires inside { place + length declared.now < 2 ^ 64 }
+    ensures { OnOk result (out.new.items ≡ out.old.items ++ spec.tables_from place declared.now tables.now.rows) }
 {
     match declared {
         [] => Ok(()),
         [table, others @ ..] => {
-            put_table(out, table, rows_at(tables, place))?;
+            let rows = tables.rows(&table.name)?;
+            put_table(out, table, rows.as_slice())?;
             put_tables(out, others, tables, place + 1)
         }
     }
 }
 
-/// The rows of each table, as a node's applied entries make them.
-fn applied_rows(alloc: Global, schema: &Schema, durable: &Durable) -> Result<Tables, Memory>
-    ensures { IfOk result (λ it. it ≡ made.rows schema.now (take durable.now.applied durable.now.log)) }
+/// The tables as a node's applied entries make them.
+fn applied_tables(alloc: Global, schema: &Schema, durable: &Durable) -> Result<Tables, Memory>
+    ensures { IfOk result (λ it. it ≡ record { schema = schema.now; rows = made.rows schema.now (take durable.now.applied durable.now.log) }) }
 {
-    let applied = durable.log.prefix(durable.applied);
-    rows(alloc, schema, applied)
+    Tables::of_entries(alloc, schema, durable.log.prefix(durable.applied))
 }
 
 /// Puts the tables, as a node's applied entries make them, at the end.
@@ -98,26 +93,32 @@ pub(crate) fn put_applied_tables(
     schema: &Schema,
     durable: &Durable,
 ) -> Result<(), Memory>
+    requires once { AreNamedOnce schema.now }
+    requires few { length schema.now.tables ≤ MOST_TABLES }
     ensures { OnOk result (out.new.items ≡ out.old.items ++ spec.applied_tables schema.now durable.now) }
 {
-    let tables = applied_rows(alloc, schema, durable)?;
-    put_tables(out, schema.tables.as_slice(), tables.as_slice(), 0)
+    let tables = applied_tables(alloc, schema, durable)?;
+    put_tables(out, schema.tables.as_slice(), &tables, 0)
 }
 
 /// Puts a line for each of the declared tables, the first of which has this place.
+#[tactic(auto, using(row_engine::proofs::Names::named_at))]
 fn put_table_lines(
     out: &mut Vec<u8>,
     declared: &[Table],
-    tables: &[List<List<Value>>],
+    tables: &Tables,
     place: usize,
 ) -> Result<(), Memory>
-    requires { place + length declared.now < 2 ^ 64 }
-    ensures { OnOk result (out.new.items ≡ out.old.items ++ spec.table_lines place declared.now tables.now) }
+    requires once { AreNamedOnce tables.now.schema }
+    requires declared { declared.now ≡ drop place tables.now.schema.tables }
+    requires inside { place + length declared.now < 2 ^ 64 }
+    ensures { OnOk result (out.new.items ≡ out.old.items ++ spec.table_lines place declared.now tables.now.rows) }
 {
     match declared {
         [] => Ok(()),
         [table, others @ ..] => {
-            put_table_line(out, table, rows_at(tables, place))?;
+            let rows = tables.rows(&table.name)?;
+            put_table_line(out, table, rows.as_slice())?;
             put_table_lines(out, others, tables, place + 1)
         }
     }
@@ -131,8 +132,10 @@ pub(crate) fn put_counted_tables(
     schema: &Schema,
     durable: &Durable,
 ) -> Result<(), Memory>
+    requires once { AreNamedOnce schema.now }
+    requires few { length schema.now.tables ≤ MOST_TABLES }
     ensures { OnOk result (out.new.items ≡ out.old.items ++ spec.counted_tables schema.now durable.now) }
 {
-    let tables = applied_rows(alloc, schema, durable)?;
-    put_table_lines(out, schema.tables.as_slice(), tables.as_slice(), 0)
+    let tables = applied_tables(alloc, schema, durable)?;
+    put_table_lines(out, schema.tables.as_slice(), &tables, 0)
 }

@@ -3,7 +3,7 @@ ghost use Rattle.std.specs.List.{list_all};
 ghost use Rattle.std.specs.Option.{option_copied};
 ghost use Rattle.ring_types.specs.Rows as spec;
 
-use ring_types::{Change, Column, Entry, LAST_GTID, Payload, Schema, Shape, Table, Text, Value};
+use ring_types::{Change, Column, LAST_GTID, Payload, Schema, Shape, Table, Text, Value};
 
 /// Whether the value is Null.
 pub fn is_null(value: &Value) -> bool
@@ -27,20 +27,6 @@ pub fn same_value(a: &Value, b: &Value) -> bool
     }
 }
 
-/// Whether a row with key `a` stands before one with key `b`.
-pub fn comes_before(a: &Value, b: &Value) -> bool
-    ensures { result ≡ spec.comes_before a.now b.now }
-{
-    match (a, b) {
-        (Value::Int(a), Value::Int(b)) => a < b,
-        (Value::Text(a), Value::Text(b)) => a < b,
-        (Value::Null, Value::Null) => false,
-        (Value::Null, _) => true,
-        (Value::Int(_), Value::Text(_)) => true,
-        _ => false,
-    }
-}
-
 /// Whether the row's key, which is its first value, is this one. A row without values has the key
 /// Null.
 pub fn has_this_key(row: &[Value], key: &Value) -> bool
@@ -53,7 +39,7 @@ pub fn has_this_key(row: &[Value], key: &Value) -> bool
 }
 
 /// Whether the row's key is Null.
-pub fn has_null_key(row: &[Value]) -> bool
+fn has_null_key(row: &[Value]) -> bool
     ensures { result ≡ spec.is_null (spec.key_of row.now) }
 {
     match row {
@@ -62,20 +48,8 @@ pub fn has_null_key(row: &[Value]) -> bool
     }
 }
 
-/// Whether the row's key stands before that of the other.
-pub fn has_lesser_key(row: &[Value], other: &[Value]) -> bool
-    ensures { result ≡ spec.comes_before (spec.key_of row.now) (spec.key_of other.now) }
-{
-    match (row, other) {
-        ([], []) => false,
-        ([], [other, ..]) => !is_null(other),
-        ([_, ..], []) => false,
-        ([key, ..], [other, ..]) => comes_before(key, other),
-    }
-}
-
 /// Whether a column of this shape may hold the value.
-pub fn value_fits(shape: Shape, value: &Value) -> bool
+fn value_fits(shape: Shape, value: &Value) -> bool
     ensures { result ≡ spec.value_fits shape value.now }
 {
     match (shape, value) {
@@ -87,7 +61,7 @@ pub fn value_fits(shape: Shape, value: &Value) -> bool
 }
 
 /// Whether values and columns pair off, and each value suits its column or is Null.
-pub fn values_fit(columns: &[Column], row: &[Value]) -> bool
+fn values_fit(columns: &[Column], row: &[Value]) -> bool
     ensures { result ≡ spec.values_fit columns.now row.now }
 {
     match columns {
@@ -103,14 +77,14 @@ pub fn values_fit(columns: &[Column], row: &[Value]) -> bool
 }
 
 /// Whether the row has a value for each column of the table, and a key that is not Null.
-pub fn row_fits(table: &Table, row: &[Value]) -> bool
+fn row_fits(table: &Table, row: &[Value]) -> bool
     ensures { result ≡ spec.row_fits table.now row.now }
 {
     values_fit(table.columns.as_slice(), row) && !has_null_key(row)
 }
 
 /// Whether a row of the table could have this key.
-pub fn key_fits(table: &Table, key: &Value) -> bool
+fn key_fits(table: &Table, key: &Value) -> bool
     ensures { result ≡ spec.key_fits table.now key.now }
 {
     match table.columns.as_slice() {
@@ -153,7 +127,7 @@ pub fn place_in(schema: &Schema, name: &Text) -> Option<usize>
 }
 
 /// The table of that name.
-pub fn table_of<'a>(schema: &'a Schema, name: &Text) -> Option<&'a Table>
+pub(crate) fn table_of<'a>(schema: &'a Schema, name: &Text) -> Option<&'a Table>
     ensures { option_copied result ≡ spec.table_of schema.now name.now }
 {
     schema
@@ -164,7 +138,7 @@ pub fn table_of<'a>(schema: &'a Schema, name: &Text) -> Option<&'a Table>
 }
 
 /// Whether the schema has the change's table, and the row or the key fits there.
-pub fn change_fits(schema: &Schema, change: &Change) -> bool
+fn change_fits(schema: &Schema, change: &Change) -> bool
     ensures { result ≡ spec.change_fits schema.now change.now }
 {
     match table_of(schema, table_name(change)) {
@@ -187,7 +161,7 @@ pub fn changes_fit(schema: &Schema, changes: &[Change]) -> bool
 }
 
 /// Whether the number may be that of a GTID.
-pub fn is_number(number: u64) -> bool
+fn is_number(number: u64) -> bool
     ensures { result ≡ spec.is_number number }
 {
     1 <= number && number <= LAST_GTID
@@ -204,11 +178,4 @@ pub fn payload_fits(schema: &Schema, payload: &Payload) -> bool
             changes_fit(schema, txn.changes.as_slice()) && is_number(txn.gtid.number)
         }
     }
-}
-
-/// Whether what each entry holds may stand in a log over this schema.
-pub fn payloads_fit(schema: &Schema, log: &[Entry]) -> bool
-    ensures { result ≡ spec.payloads_fit schema.now log.now }
-{
-    log.iter().all(|entry| payload_fits(schema, &entry.payload))
 }

@@ -202,7 +202,7 @@ fn number_in(server: u128, entry: &Entry) -> u64
 
 /// The server's greatest number in the log, 0 where it has none.
 #[tactic(auto, using(crate::proofs::Growing::greatest_number_more))]
-pub fn greatest_number(server: u128, log: &[Entry]) -> u64
+pub(crate) fn greatest_number(server: u128, log: &[Entry]) -> u64
     ensures { result ≡ spec.greatest_number server log.now }
 {
     let mut greatest = 0u64;

@@ -162,7 +162,7 @@ pub fn rows_event_size(table: &Table, change: &Change) -> u64
 
 /// The bytes of a change's two events, or 2^64 - 1 where they are more; 0 where the schema lacks
 /// its table.
-pub fn change_size(schema: &Schema, change: &Change) -> u64
+fn change_size(schema: &Schema, change: &Change) -> u64
     ensures { result ≡ min (spec.change_size schema.now change.now) (2 ^ 64 - 1) }
 {
     match table_of(schema, table_name(change)) {
@@ -174,7 +174,7 @@ pub fn change_size(schema: &Schema, change: &Change) -> u64
 }
 
 /// The bytes of the events of some changes, or 2^64 - 1 where they are more.
-pub fn changes_size(schema: &Schema, changes: &[Change]) -> u64
+fn changes_size(schema: &Schema, changes: &[Change]) -> u64
     ensures { result ≡ min (spec.changes_size schema.now changes.now) (2 ^ 64 - 1) }
 {
     let mut so_far = 0u64;

@@ -1,7 +1,8 @@
-use crate::{Tables, check, greatest_number, group_size, gtids, has, next_number, rows};
+use crate::gtid_numbers::greatest_number;
+use crate::{group_size, gtids, has, next_number};
 use ring_types::{
-    Change, Column, Entry, Gtid, Interval, List, Memory, Opid, Payload, RegionId, RowRefusal,
-    Schema, ServerSet, Shape, Table, Text, Txn, Value,
+    Change, Column, Entry, Gtid, Interval, List, Memory, Opid, Payload, RegionId, Schema,
+    ServerSet, Shape, Table, Text, Txn, Value,
 };
 use std::alloc::Global;
 use std::test::Fail;
@@ -64,13 +65,6 @@ fn insert(alloc: Global, table: &str, id: i64, bytes: usize) -> Result<Change, M
     })
 }
 
-fn insert_null_key(alloc: Global) -> Result<Change, Memory> {
-    Ok(Change::Insert {
-        table: Text::copy_of(alloc, "t")?,
-        row: pair(alloc, Value::Null, Value::Null)?,
-    })
-}
-
 fn update_to_null(alloc: Global, id: i64) -> Result<Change, Memory> {
     Ok(Change::Update {
         table: Text::copy_of(alloc, "t")?,
@@ -82,13 +76,6 @@ fn delete(alloc: Global, id: i64) -> Result<Change, Memory> {
     Ok(Change::Delete {
         table: Text::copy_of(alloc, "t")?,
         key: Value::Int(id),
-    })
-}
-
-fn delete_of_text(alloc: Global) -> Result<Change, Memory> {
-    Ok(Change::Delete {
-        table: Text::copy_of(alloc, "t")?,
-        key: Value::Text(Text::copy_of(alloc, "one")?),
     })
 }
 
@@ -107,99 +94,6 @@ fn put(log: &mut List<Entry>, term: u64, payload: Payload) -> Result<(), Memory>
         region: RegionId(2),
         payload,
     })
-}
-
-/// Puts a transaction of two inserts into `t`.
-fn put_inserts(
-    alloc: Global,
-    log: &mut List<Entry>,
-    first: (i64, usize),
-    second: (i64, usize),
-) -> Result<(), Memory> {
-    let one = insert(alloc, "t", first.0, first.1)?;
-    let other = insert(alloc, "t", second.0, second.1)?;
-    put(log, 1, transaction(7, 1, pair(alloc, one, other)?))
-}
-
-/// Two inserts in falling key order; two inserts of which the second is refused; a rotate; an
-/// update to Null and a delete.
-fn four_entries(alloc: Global) -> Result<List<Entry>, Memory> {
-    let mut log = List::new(alloc);
-    put_inserts(alloc, &mut log, (2, 5), (1, 4))?;
-    put_inserts(alloc, &mut log, (3, 6), (2, 7))?;
-    put(&mut log, 1, Payload::Rotate)?;
-    let changed = update_to_null(alloc, 1)?;
-    let changes = pair(alloc, changed, delete(alloc, 2)?)?;
-    put(&mut log, 3, transaction(7, 3, changes))?;
-    Ok(log)
-}
-
-/// The rows of `t` after the first entry, and no row of `b`.
-fn early_tables(alloc: Global) -> Result<Tables, Memory> {
-    let first = row(alloc, 1, Some(4))?;
-    let both = pair(alloc, first, row(alloc, 2, Some(5))?)?;
-    pair(alloc, both, List::new(alloc))
-}
-
-/// The rows of `t` after the last entry, and no row of `b`.
-fn late_tables(alloc: Global) -> Result<Tables, Memory> {
-    let alone = List::of_one(alloc, row(alloc, 1, None)?)?;
-    pair(alloc, alone, List::new(alloc))
-}
-
-#[test]
-fn rows_of_a_log(rt: HostRuntime) -> Result<(), Fail> {
-    let schema = schema(rt.alloc())?;
-    let log = four_entries(rt.alloc())?;
-    let early = early_tables(rt.alloc())?;
-    for count in [1, 2, 3] {
-        let tables = rows(rt.alloc(), &schema, log.prefix(count))?;
-        assert_eq!(rt; tables, early, "after {count} entries");
-    }
-    let tables = rows(rt.alloc(), &schema, log.as_slice())?;
-    assert_eq!(rt; tables, late_tables(rt.alloc())?);
-    Ok(())
-}
-
-/// A change by the number of its case.
-fn change_of(alloc: Global, case: u8) -> Result<Change, Memory> {
-    match case {
-        0 => insert(alloc, "none", 1, 3),
-        1 => insert(alloc, "t", 1, 21),
-        2 => insert_null_key(alloc),
-        3 => delete_of_text(alloc),
-        4 => insert(alloc, "t", 1, 3),
-        5 => update_to_null(alloc, 3),
-        6 => delete(alloc, 3),
-        7 => update_to_null(alloc, 1),
-        8 => delete(alloc, 1),
-        _ => insert(alloc, "t", 3, 20),
-    }
-}
-
-#[test]
-fn first_refusals(rt: HostRuntime) -> Result<(), Fail> {
-    let schema = schema(rt.alloc())?;
-    let tables = early_tables(rt.alloc())?;
-    for (case, other, refusal) in [
-        (0, 8, Some(RowRefusal::NoTable)),
-        (1, 0, Some(RowRefusal::BadRow)),
-        (2, 0, Some(RowRefusal::BadRow)),
-        (3, 0, Some(RowRefusal::BadRow)),
-        (4, 0, Some(RowRefusal::KeyExists)),
-        (5, 0, Some(RowRefusal::NoKey)),
-        (6, 0, Some(RowRefusal::NoKey)),
-        (7, 0, Some(RowRefusal::NoTable)),
-        (8, 8, Some(RowRefusal::NoKey)),
-        (8, 4, None),
-        (9, 7, None),
-    ] {
-        let first = change_of(rt.alloc(), case)?;
-        let changes = pair(rt.alloc(), first, change_of(rt.alloc(), other)?)?;
-        let answer = check(rt.alloc(), &schema, tables.as_slice(), changes.as_slice())?;
-        assert_eq!(rt; answer, refusal, "cases {case} and {other}");
-    }
-    Ok(())
 }
 
 /// 62 inserts of bodies of 16000 bytes and one of so many.

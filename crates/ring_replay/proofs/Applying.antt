@@ -9,6 +9,8 @@ use Rattle.ring_types.specs.Rings.{Layout}
 use Rattle.ring_types.specs.Rows.{Tables, rows, rows_from, after_payload, empty_tables}
 use Rattle.ring_model.specs.Actions.{done}
 use Rattle.ring_model.specs.Writes.{committed_rows}
+use Rattle.row_engine.specs.Filled.{Filled}
+use Rattle.commit_pipeline.specs.Engines.{engine_tables}
 use Rattle.ring_model.specs.declared.nodes.Durable.{Durable}
 use Rattle.ring_model.specs.declared.effects.Action.TheVariants as action
 
@@ -28,6 +30,11 @@ unfolding rows
 next_rows ring d position e is at =
     let there : slice_get d.log d.applied ≡ Some e = rw is at at in
     rw is (rw (take_one_more d.log d.applied e there) (rows_from-push ring.schema (empty_tables ring.schema) (take d.applied d.log) e))
+
+-- the tables of an engine after the commit of the next entry
+pub next_tables : (ring : Layout) (d : Durable) (position : ℕ) (e : Entry) (t : Filled) → position ≡ suc d.applied → entry_at d.log position ≡ Some e
+    → t.schema ≡ ring.schema → t.rows ≡ after_payload ring.schema (committed_rows ring d) e.payload → t ≡ engine_tables ring (done d (action.Commit position))
+next_tables ring d position e t is at schema rows = let n = next_rows ring d position e is at in cc
 
 -- entries added after those that are applied, and a cut that keeps them, leave the rows
 pub rows_appended : (ring : Layout) (d : Durable) (entries : List Entry) → d.applied ≤ length d.log → committed_rows ring (done d (action.Append entries)) ≡ committed_rows ring d

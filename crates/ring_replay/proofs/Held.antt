@@ -1,37 +1,40 @@
 -- A replay is one of its ring: at the beginning, and after a turn.
-use Rattle.std.proofs.Common.{◌≡◌, ℕ, ◌<◌, List, [], ◌∷◌, length, map, Option, None, Some, option_map, refl, subst, ap, sym, ◌∙◌}
+use Rattle.std.proofs.Common.{◌≡◌, ℕ, zero, suc, ◌<◌, List, [], ◌∷◌, length, map, Option, None, Some, option_map, refl, subst, ap, sym, ◌∙◌}
 use Rattle.std.specs.Prelude.{slice_get, slice_set}
 use Rattle.std.proofs.lemmas.List.{length-map, map-set, set-set}
 use Rattle.std.proofs.lemmas.Option.{slice_get-map, slice_get_within}
 use Rattle.ring_types.specs.declared.members.Member.{Member}
 use Rattle.ring_types.specs.Rings.{Layout}
-use Rattle.ring_types.specs.Rows.{Tables, rows, empty_tables}
+use Rattle.ring_types.specs.Rows.{rows}
+use Rattle.row_engine.specs.Filled.{Filled}
 use Rattle.ring_model.specs.Worlds.{Handle, first_world, shown, shown_node}
 use Rattle.ring_model.specs.declared.worlds.Shown.{Shown}
 use Rattle.ring_model.specs.Dispatch.{step}
 use Rattle.ring_model.specs.declared.nodes.Soft.{Soft}
 use Rattle.ring_model.specs.declared.effects.Step.{Step}
+use Rattle.ring_model.specs.declared.effects.Say.{Say}
+use Rattle.ring_model.specs.declared.messages.Message.{Message}
 use Rattle.ring_model.specs.declared.messages.Input.{Input}
 use Rattle.ring_model.specs.declared.worlds.World.{World}
 use Rattle.ring_replay.specs.Steps.{nobody, shown_turned, shown_passed, shown_ended, shown_handled, ended_at, turn_of, answered}
-use Rattle.ring_replay.specs.Turns.{taken_turn, emptied}
+use Rattle.ring_replay.specs.Turns.{emptied}
 use Rattle.ring_replay.specs.declared.turns.Turn.{Turn}
-use Rattle.ring_replay.specs.Replays.{ReplayState, IsHeld, HasTables, rows_of}
+use Rattle.ring_replay.specs.Replays.{ReplayState, IsHeld, HasTables, tables_of, empty_filled}
 
 map_of_map : {X Y Z : Type 0} (f : X → Y) (g : Y → Z) (xs : List X) → map g (map f xs) ≡ map (λ x. g (f x)) xs
 map_of_map f g [] = refl
 map_of_map f g (x ∷ xs) = ap (λ zs. g (f x) ∷ zs) (map_of_map f g xs)
 
-first_rows : (ring : Layout) (m : Member) → rows_of ring (shown_node first_world m) ≡ empty_tables ring.schema
+first_rows : (ring : Layout) (m : Member) → tables_of ring (shown_node first_world m) ≡ empty_filled ring.schema
 unfolding rows
 first_rows ring m = refl
 
-first_tables : (ring : Layout) (ms : List Member) → map (λ (m : Member). empty_tables ring.schema) ms ≡ map (rows_of ring) (map (shown_node first_world) ms)
+first_tables : (ring : Layout) (ms : List Member) → map (λ (m : Member). empty_filled ring.schema) ms ≡ map (tables_of ring) (map (shown_node first_world) ms)
 first_tables ring [] = refl
 first_tables ring (m ∷ ms) = let a = first_rows ring m in let b = first_tables ring ms in cc
 
 -- at the beginning
-pub first_held : (ring : Layout) (r : ReplayState) → r.world ≡ shown ring first_world → r.tables ≡ map (λ (m : Member). empty_tables ring.schema) ring.members → IsHeld ring r
+pub first_held : (ring : Layout) (r : ReplayState) → r.world ≡ shown ring first_world → r.tables ≡ map (λ (m : Member). empty_filled ring.schema) ring.members → IsHeld ring r
 unfolding shown
 first_held ring r world tables = record {
   nodes = rw world (map_of_map (shown_node first_world) (λ (s : Shown). s.node) ring.members);
@@ -43,35 +46,41 @@ first_held ring r world tables = record {
 some_same : {X : Type 0} (x y : X) → Some x ≡ Some y → x ≡ y
 some_same x y e = cc
 
-pub rows_at : (ring : Layout) (r : ReplayState) (place : ℕ) (s : Shown) (rows : Tables) → slice_get r.world.nodes place ≡ Some s → slice_get r.tables place ≡ Some rows → HasTables ring r → rows ≡ rows_of ring s
-rows_at ring r place s rows node table held =
-    let e : slice_get r.tables place ≡ Some (rows_of ring s) = rw held (slice_get-map (rows_of ring) r.world.nodes place ∙ ap (option_map (rows_of ring)) node) in
-    some_same _ _ (sym table ∙ e)
+-- where a node is, there are the tables of its engine
+pub rows_there : (ring : Layout) (r : ReplayState) (place : ℕ) (s : Shown) → slice_get r.world.nodes place ≡ Some s → HasTables ring r → slice_get r.tables place ≡ Some (tables_of ring s)
+rows_there ring r place s node held = rw held (slice_get-map (tables_of ring) r.world.nodes place ∙ ap (option_map (tables_of ring)) node)
 
-taken_over : (r : ReplayState) (place : ℕ) (t : Turn) → taken_turn (emptied r place) place t ≡ taken_turn r place t
-unfolding taken_turn emptied shown_turned
-taken_over r place t =
-    let n = set-set r.world.nodes place nobody t.shown in
-    let e = set-set r.tables place [] t.rows in
-    cc
+pub rows_at : (ring : Layout) (r : ReplayState) (place : ℕ) (s : Shown) (rows : Filled) → slice_get r.world.nodes place ≡ Some s → slice_get r.tables place ≡ Some rows → HasTables ring r → rows ≡ tables_of ring s
+rows_at ring r place s rows node table held = some_same _ _ (sym table ∙ rows_there ring r place s node held)
 
-pub taken_world : (r : ReplayState) (place : ℕ) (t : Turn) → (taken_turn (emptied r place) place t).world ≡ shown_turned r.world place t.shown t.messages t.says
-unfolding taken_turn
-taken_world r place t = ap (λ (x : ReplayState). x.world) (taken_over r place t)
+-- there are as many tables as nodes
+pub table_there : (ring : Layout) (r : ReplayState) (place : ℕ) → HasTables ring r → place < length r.world.nodes → place < length r.tables
+table_there ring r place held inside = rw held (rw (length-map r.world.nodes (tables_of ring)) inside)
 
-turn_held : (ring : Layout) (r : ReplayState) (place : ℕ) (t : Turn) → HasTables ring r → t.rows ≡ rows_of ring t.shown → HasTables ring (taken_turn r place t)
-unfolding taken_turn shown_turned
-turn_held ring r place t held own =
-    let f : Shown → Tables = rows_of ring in
-    ap (λ (tables : List Tables). slice_set tables place t.rows) held
-    ∙ (ap (slice_set (map f r.world.nodes) place) own ∙ sym (map-set f r.world.nodes place t.shown))
+-- a node that is put back after its turn stands where it was taken out
+pub taken_over : (v : World) (place : ℕ) (s : Shown) (messages : List Message) (says : List Say) → shown_turned (emptied v place) place s messages says ≡ shown_turned v place s messages says
+unfolding emptied shown_turned
+taken_over v place s messages says = let n = set-set v.nodes place nobody s in cc
 
-pub taken_held : (ring : Layout) (r : ReplayState) (place : ℕ) (t : Turn) → HasTables ring r → t.rows ≡ rows_of ring t.shown → HasTables ring (taken_turn (emptied r place) place t)
-taken_held ring r place t held own = subst (λ (x : ReplayState). HasTables ring x) (sym (taken_over r place t)) (turn_held ring r place t held own)
+-- the tables at the place are those of what the turn made of the node
+pub turn_held : (ring : Layout) (v : World) (tables : List Filled) (place : ℕ) (own : Filled) (t : Turn) → tables ≡ map (tables_of ring) v.nodes → own ≡ tables_of ring t.shown
+    → slice_set tables place own ≡ map (tables_of ring) (shown_turned v place t.shown t.messages t.says).nodes
+unfolding shown_turned
+turn_held ring v tables place own t held is =
+    ap (λ (ts : List Filled). slice_set ts place own) held
+    ∙ (ap (slice_set (map (tables_of ring) v.nodes) place) is ∙ sym (map-set (tables_of ring) v.nodes place t.shown))
 
--- where a node is, there are its rows
-pub rows_there : (ring : Layout) (r : ReplayState) (place : ℕ) (s : Shown) → slice_get r.world.nodes place ≡ Some s → HasTables ring r → slice_get r.tables place ≡ Some (rows_of ring s)
-rows_there ring r place s node held = rw held (slice_get-map (rows_of ring) r.world.nodes place ∙ ap (option_map (rows_of ring)) node)
+set_back : {X : Type 0} (xs : List X) (place : ℕ) (x : X) → slice_get xs place ≡ Some x → slice_set xs place x ≡ xs
+set_back [] place x is = refl
+set_back (y ∷ ys) zero x is = ap (λ (z : X). z ∷ ys) (sym (some_same y x is))
+set_back (y ∷ ys) (suc place) x is = ap (λ zs. y ∷ zs) (set_back ys place x is)
+
+-- a turn that leaves a node's engine leaves the tables
+pub turn_kept : (ring : Layout) (v : World) (tables : List Filled) (place : ℕ) (s : Shown) (t : Turn) → tables ≡ map (tables_of ring) v.nodes → slice_get v.nodes place ≡ Some s
+    → tables_of ring t.shown ≡ tables_of ring s → tables ≡ map (tables_of ring) (shown_turned v place t.shown t.messages t.says).nodes
+turn_kept ring v tables place s t held node same =
+    let own : slice_get tables place ≡ Some (tables_of ring s) = rw held (slice_get-map (tables_of ring) v.nodes place ∙ ap (option_map (tables_of ring)) node) in
+    sym (set_back tables place (tables_of ring s) own) ∙ turn_held ring v tables place (tables_of ring s) t held (sym same)
 
 -- ---- an input at a place
 pub answered_there : (ring : Layout) (i : Input) (nodes : List Shown) (place : ℕ) (st : Step) → answered ring i (slice_get nodes place) ≡ Some st → place < length nodes

@@ -1,4 +1,3 @@
-pub mod Applying
 pub mod Replays
 pub mod Steps
 pub mod Turns

@@ -1,9 +1,11 @@
--- A replay: the world as it is shown, and beside each node the rows that its engine has applied.
+-- A replay: the world as it is shown, and beside each node the tables of its engine.
 use Rattle.std.specs.Prelude.{◌≡◌, Bool, true, false, List, length, map, Result, Ok, Err}
 use Rattle.ring_types.specs.declared.members.Member.{Member}
 use Rattle.ring_types.specs.Rings.{Layout}
-use Rattle.ring_types.specs.Rows.{Tables}
-use Rattle.ring_model.specs.Writes.{committed_rows}
+use Rattle.ring_types.specs.declared.schemas.Schema.{Schema}
+use Rattle.ring_types.specs.Rows.{empty_tables}
+use Rattle.row_engine.specs.Filled.{Filled}
+use Rattle.commit_pipeline.specs.Engines.{engine_tables}
 use Rattle.ring_model.specs.declared.worlds.Shown.{Shown}
 use Rattle.ring_model.specs.declared.worlds.World.{World}
 use Rattle.ring_replay.specs.declared.replays.EventError.{EventError}
@@ -11,20 +13,23 @@ use Rattle.ring_replay.specs.declared.replays.EventError.TheVariants as refusal
 
 pub record ReplayState : Type 0 where
   pub world : World
-  pub tables : List Tables
+  pub tables : List Filled
 
-abbrev pub rows_of : Layout → Shown → Tables
-rows_of ring s = committed_rows ring s.durable
+abbrev pub empty_filled : Schema → Filled
+empty_filled schema = record { schema = schema; rows = empty_tables schema }
 
--- the tables are the rows that each node's engine has applied
+abbrev pub tables_of : Layout → Shown → Filled
+tables_of ring s = engine_tables ring s.durable
+
+-- the tables are those of each node's engine
 abbrev pub HasTables : Layout → ReplayState → Type 0
-HasTables ring r = r.tables ≡ map (rows_of ring) r.world.nodes
+HasTables ring r = r.tables ≡ map (tables_of ring) r.world.nodes
 
--- the replay is one of this ring: its nodes and cursors are those of the members, in ring order, and the tables are the rows that each node's engine has applied
+-- the replay is one of this ring: its nodes and cursors are those of the members, in ring order, and the tables are those of each node's engine
 pub record IsHeld (ring : Layout) (r : ReplayState) : Type 0 where
   pub nodes : map (λ (s : Shown). s.node) r.world.nodes ≡ map (λ (m : Member). m.id) ring.members
   pub cursors : length r.world.cursors ≡ length ring.members
-  pub tables : r.tables ≡ map (rows_of ring) r.world.nodes
+  pub tables : r.tables ≡ map (tables_of ring) r.world.nodes
 
 -- an event is refused exactly where its node or its message is not known
 abbrev pub Refuses : Bool → Result (Unit {0}) EventError → Type 0

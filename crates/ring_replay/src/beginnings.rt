@@ -1,14 +1,14 @@
 ghost use Rattle.std.specs.Prelude.{◌≡◌, IfOk, Some, map};
 ghost use Rattle.ring_types.specs.declared.members.Member.{Member};
-ghost use Rattle.ring_types.specs.Rows as rows;
 ghost use Rattle.ring_model.specs.Nodes as nodes;
 ghost use Rattle.ring_model.specs.Worlds as spec;
+ghost use Rattle.ring_replay.specs.Replays.{empty_filled};
 ghost use Rattle.ring_replay.specs.Steps.{nobody};
 
 use crate::turns::fresh_soft;
 use ring_model::{Durable, Shown};
-use ring_plain::{Tables, empty_tables};
 use ring_types::{List, Memory, NodeId, Ring};
+use row_engine::Tables;
 use std::alloc::Global;
 
 fn empty_durable(alloc: Global) -> Durable
@@ -70,14 +70,14 @@ pub(crate) fn first_cursors(alloc: Global, ring: &Ring) -> Result<List<u64>, Mem
     Ok(cursors)
 }
 
-/// The rows before the first event: none.
+/// The tables before the first event: no rows.
 pub(crate) fn first_tables(alloc: Global, ring: &Ring) -> Result<Vec<Tables>, Memory>
-    ensures { IfOk result (λ it. it.items ≡ map (λ (m : Member). rows.empty_tables ring.now.schema) ring.now.members) }
+    ensures { IfOk result (λ it. it.items ≡ map (λ (m : Member). empty_filled ring.now.schema) ring.now.members) }
 {
     let members = ring.members().as_slice();
     let mut tables = Vec::new(alloc);
     for _ in members {
-        tables.push(empty_tables(alloc, ring.schema())?)?;
+        tables.push(Tables::new(alloc, ring.schema())?)?;
     }
     Ok(tables)
 }

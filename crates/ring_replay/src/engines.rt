@@ -1,153 +1,60 @@
-ghost use Rattle.std.specs.Prelude.{◌≡◌, ◌≤◌, IfOk, IfSome, length, take};
-ghost use Rattle.ring_types.specs.Rows as rows;
+ghost use Rattle.std.specs.Prelude.{◌≡◌, true, IfOk, OnOk};
 ghost use Rattle.ring_model.specs.Actions as spec;
-ghost use Rattle.ring_model.specs.Writes.{committed_rows};
 ghost use Rattle.ring_model.specs.declared.effects.Action.TheVariants as action;
-ghost use Rattle.ring_replay.specs.Applying.{HasRows, accepted};
+ghost use Rattle.commit_pipeline.specs.Engines.{engine_tables};
 
 use commit_pipeline::done;
 use ring_model::{Action, Durable};
-use ring_plain::{Tables, changed, joined, refusal_of, rows};
-use ring_types::{Change, Entry, List, Memory, Payload, Ring, Schema, entry_at};
+use ring_plain::joined;
+use ring_types::{Entry, Memory, Ring, entry_at};
+use row_engine::Tables;
 use std::alloc::Global;
-
-/// The entries that the engine has applied.
-fn applied_entries(durable: &Durable) -> &[Entry]
-    ensures { result.now ≡ take durable.now.applied durable.now.log }
-{
-    match durable.log.as_slice().get(..durable.applied as usize) {
-        Some(entries) => entries,
-        None => durable.log.as_slice(),
-    }
-}
 
 /// The rows that the engine has applied, from the log's beginning.
 pub(crate) fn all_rows(alloc: Global, ring: &Ring, durable: &Durable) -> Result<Tables, Memory>
-    ensures { IfOk result (λ it. it ≡ committed_rows ring.now durable.now) }
+    ensures { IfOk result (λ it. it ≡ engine_tables ring.now durable.now) }
 {
-    rows(alloc, ring.schema(), applied_entries(durable))
+    Tables::of_entries(alloc, ring.schema(), durable.log.prefix(durable.applied))
 }
 
-/// The tables after changes of which they accept each in its turn; None where they refuse one.
-fn accepted(
-    alloc: Global,
-    schema: &Schema,
-    tables: Tables,
-    changes: &[Change],
-) -> Result<Option<Tables>, Memory>
-    ensures { IfOk result (λ it. it ≡ accepted schema.now tables changes.now) }
-{
-    let mut current = tables;
-    for change in changes {
-        match refusal_of(schema, current.as_slice(), change) {
-            Some(_) => return Ok(None),
-            None => current = changed(alloc, schema, current.as_slice(), change)?,
-        }
-    }
-    Ok(Some(current))
-}
-
-/// The tables after a transaction, which leaves them where one of its changes is refused.
-fn applied(
-    alloc: Global,
-    schema: &Schema,
-    tables: Tables,
-    changes: &[Change],
-) -> Result<Tables, Memory>
-    ensures { IfOk result (λ it. it ≡ rows.applied schema.now tables changes.now) }
-{
-    match changes {
-        [] => Ok(tables),
-        [first, rest @ ..] => match refusal_of(schema, tables.as_slice(), first) {
-            Some(_) => Ok(tables),
-            None => {
-                let next = changed(alloc, schema, tables.as_slice(), first)?;
-                match accepted(alloc, schema, next, rest)? {
-                    Some(all) => Ok(all),
-                    None => Ok(tables),
-                }
-            }
-        },
-    }
-}
-
-fn with_entry(
-    alloc: Global,
-    schema: &Schema,
-    tables: Tables,
-    entry: &Entry,
-) -> Result<Tables, Memory>
-    ensures { IfOk result (λ it. it ≡ rows.after_payload schema.now tables entry.now.payload) }
-{
-    match &entry.payload {
-        Payload::NoOp => Ok(tables),
-        Payload::Rotate => Ok(tables),
-        Payload::Txn(txn) => applied(alloc, schema, tables, txn.changes.as_slice()),
-    }
-}
-
-/// The rows after a commit, where it is one of the next entry.
-#[tactic(auto, using(crate::proofs::Applying::next_rows))]
-fn rows_after_commit(
-    alloc: Global,
+/// Brings the rows to the commit of a position; tells whether it could, as for the next entry.
+#[tactic(auto, using(crate::proofs::Applying::next_tables))]
+fn follow_commit(
     ring: &Ring,
     before: &Durable,
-    tables: Tables,
+    rows: &mut Tables,
     position: u64,
-) -> Result<Option<Tables>, Memory>
-    requires { tables ≡ committed_rows ring.now before.now }
-    ensures { IfOk result (λ it. IfSome it (λ t. t ≡ committed_rows ring.now (spec.done before.now (action.Commit position)))) }
+) -> Result<bool, Memory>
+    requires { rows.old ≡ engine_tables ring.now before.now }
+    ensures { IfOk result (λ it. it ≡ true → rows.new ≡ engine_tables ring.now (spec.done before.now (action.Commit position))) }
 {
     if position == 0 || position - 1 != before.applied {
-        return Ok(None);
+        return Ok(false);
     }
     match entry_at(before.log.as_slice(), position) {
-        Some(entry) => Ok(Some(with_entry(alloc, ring.schema(), tables, entry)?)),
-        None => Ok(None),
+        Some(entry) => {
+            rows.commit(&entry.payload)?;
+            Ok(true)
+        }
+        None => Ok(false),
     }
 }
 
-fn rows_after_append(before: &Durable, tables: Tables) -> Option<Tables>
-    ensures { IfSome result (λ t. (before.now.applied ≤ length before.now.log) × (t ≡ tables)) }
-{
-    if before.applied <= before.log.len() as u64 {
-        Some(tables)
-    } else {
-        None
-    }
-}
-
-fn rows_after_cut(before: &Durable, tables: Tables, position: u64) -> Option<Tables>
-    ensures { IfSome result (λ t. (before.now.applied ≤ position) × (t ≡ tables)) }
-{
-    if before.applied <= position {
-        Some(tables)
-    } else {
-        None
-    }
-}
-
-/// The rows after an action, where no fold of the log is needed to know them.
+/// Brings the rows to an action; tells whether it could without a fold of the log.
 #[tactic(auto, using(crate::proofs::Applying::rows_appended, crate::proofs::Applying::rows_truncated))]
-fn rows_after(
-    alloc: Global,
-    ring: &Ring,
-    before: &Durable,
-    tables: Tables,
-    action: &Action,
-) -> Result<Option<Tables>, Memory>
-    requires { tables ≡ committed_rows ring.now before.now }
-    ensures { IfOk result (λ it. IfSome it (λ t. t ≡ committed_rows ring.now (spec.done before.now action.now))) }
+fn follow(ring: &Ring, before: &Durable, rows: &mut Tables, action: &Action) -> Result<bool, Memory>
+    requires { rows.old ≡ engine_tables ring.now before.now }
+    ensures { IfOk result (λ it. it ≡ true → rows.new ≡ engine_tables ring.now (spec.done before.now action.now)) }
 {
     match action {
-        Action::SetTerm(_) => Ok(Some(tables)),
-        Action::Vote { .. } => Ok(Some(tables)),
-        Action::Append(_) => Ok(rows_after_append(before, tables)),
-        Action::Truncate(position) => Ok(rows_after_cut(before, tables, *position)),
-        Action::Prepare(_) => Ok(Some(tables)),
-        Action::Commit(position) => rows_after_commit(alloc, ring, before, tables, *position),
-        Action::RollBackAfter(_) => Ok(Some(tables)),
-        Action::DropPairs(_) => Ok(Some(tables)),
+        Action::SetTerm(_) => Ok(true),
+        Action::Vote { .. } => Ok(true),
+        Action::Append(_) => Ok(before.applied <= before.log.len() as u64),
+        Action::Truncate(position) => Ok(before.applied <= *position),
+        Action::Prepare(_) => Ok(true),
+        Action::Commit(position) => follow_commit(ring, before, rows, *position),
+        Action::RollBackAfter(_) => Ok(true),
+        Action::DropPairs(_) => Ok(true),
     }
 }
 
@@ -181,42 +88,56 @@ fn done_in_place(alloc: Global, durable: Durable, action: &Action) -> Result<Dur
     }
 }
 
-/// A durable part, and the rows that its engine has applied.
-#[derive(Drop)]
-pub(crate) struct Engine {
-    pub durable: Durable,
-    pub rows: Tables,
-}
-
-fn after(alloc: Global, ring: &Ring, engine: Engine, action: &Action) -> Result<Engine, Memory>
-    requires { HasRows ring.now engine }
-    ensures durable { IfOk result (λ it. it.durable ≡ spec.done engine.durable action.now) }
-    ensures rows { IfOk result (HasRows ring.now) }
+/// Makes the rows anew where they are not those of the durable part.
+fn refresh(
+    alloc: Global,
+    ring: &Ring,
+    durable: &Durable,
+    rows: &mut Tables,
+    are_known: bool,
+) -> Result<(), Memory>
+    requires { are_known ≡ true → rows.old ≡ engine_tables ring.now durable.now }
+    ensures { OnOk result (rows.new ≡ engine_tables ring.now durable.now) }
 {
-    let Engine { durable, rows } = engine;
-    let known = rows_after(alloc, ring, &durable, rows, action)?;
-    let durable = done_in_place(alloc, durable, action)?;
-    let rows = match known {
-        Some(rows) => rows,
-        None => all_rows(alloc, ring, &durable)?,
-    };
-    Ok(Engine { durable, rows })
+    if !are_known {
+        *rows = all_rows(alloc, ring, durable)?;
+    }
+    Ok(())
 }
 
-/// What a list of actions, in order, makes of a durable part and its rows.
+fn after(
+    alloc: Global,
+    ring: &Ring,
+    durable: Durable,
+    rows: &mut Tables,
+    action: &Action,
+) -> Result<Durable, Memory>
+    requires { rows.old ≡ engine_tables ring.now durable }
+    ensures durable { IfOk result (λ it. it ≡ spec.done durable action.now) }
+    ensures rows { IfOk result (λ it. rows.new ≡ engine_tables ring.now it) }
+{
+    let are_known = follow(ring, &durable, rows, action)?;
+    let durable = done_in_place(alloc, durable, action)?;
+    refresh(alloc, ring, &durable, rows, are_known)?;
+    Ok(durable)
+}
+
+/// What a list of actions, in order, makes of a durable part; `rows`, which its engine has applied,
+/// become those of what it is then. After `Memory` the rows are to be made anew.
 pub(crate) fn all_after(
     alloc: Global,
     ring: &Ring,
-    engine: Engine,
+    durable: Durable,
+    rows: &mut Tables,
     actions: &[Action],
-) -> Result<Engine, Memory>
-    requires { HasRows ring.now engine }
-    ensures durable { IfOk result (λ it. it.durable ≡ spec.all_done engine.durable actions.now) }
-    ensures rows { IfOk result (HasRows ring.now) }
+) -> Result<Durable, Memory>
+    requires { rows.old ≡ engine_tables ring.now durable }
+    ensures durable { IfOk result (λ it. it ≡ spec.all_done durable actions.now) }
+    ensures rows { IfOk result (λ it. rows.new ≡ engine_tables ring.now it) }
 {
-    let mut current = engine;
+    let mut current = durable;
     for action in actions {
-        current = after(alloc, ring, current, action)?;
+        current = after(alloc, ring, current, rows, action)?;
     }
     Ok(current)
 }

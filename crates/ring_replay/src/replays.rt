@@ -3,7 +3,7 @@ ghost use Rattle.ring_model.specs.Worlds.{WorldState, Whole, Handle, GoDown, Com
 ghost use Rattle.ring_model.specs.Runs.{is_known};
 ghost use Rattle.ring_model.specs.declared.messages.Message.{Message};
 ghost use Rattle.ring_replay.specs.Replays.{ReplayState, IsHeld, HasTables, Refuses};
-ghost use Rattle.ring_replay.specs.Turns.{taken_turn, emptied};
+ghost use Rattle.ring_replay.specs.Turns.{emptied};
 ghost use Rattle.ring_replay.specs.Steps as steps;
 
 use crate::beginnings::{first_cursors, first_nodes, first_tables, nobody};
@@ -13,8 +13,9 @@ use crate::lists::replaced;
 use crate::messages::{add_said, message_at, next_to};
 use crate::turns::{Turn, answer, downed, ended, restarted};
 use ring_model::{Event, Input, Line, Message, Shown, Step, World};
-use ring_plain::{Tables, joined};
+use ring_plain::joined;
 use ring_types::{Duplicate, List, Memory, NodeId, Ring};
+use row_engine::Tables;
 use std::alloc::Global;
 use std::marker::Model;
 
@@ -31,7 +32,7 @@ pub enum EventError {
 /// A ring's run: the world after the events so far.
 ///
 /// The list of nodes of `world` stands empty: they are in `nodes`, so that a turn may take one out
-/// and change it in place. `tables` has for each node the rows that its engine has applied.
+/// and change it in place. `tables` has for each node those of its engine.
 #[derive(Drop)]
 pub struct Replay {
     world: World,
@@ -45,13 +46,6 @@ impl Model for Replay {
     ghost Value = { ReplayState };
 
     ghost view = { λ r. record { world = record r.world { nodes = r.nodes.items }; tables = r.tables.items } };
-}
-
-/// A node that was taken out for its turn, with the rows that its engine has applied.
-#[derive(Drop)]
-struct Taken {
-    shown: Shown,
-    rows: Tables,
 }
 
 impl Replay {
@@ -88,16 +82,15 @@ impl Replay {
     }
 
     /// The node at a place becomes, sends and says what its turn made.
-    #[tactic(auto, unfolding(crate::specs::Turns::taken_turn, crate::specs::Steps::shown_turned))]
+    #[tactic(auto, unfolding(crate::specs::Steps::shown_turned))]
     fn take_turn(&mut self, alloc: Global, place: usize, turn: Turn) -> Result<(), Memory>
         requires few { self.old.world.events < 2 ^ 64 - 1 }
         requires node { place < length self.old.world.nodes }
-        requires rows { place < length self.old.tables }
-        ensures { OnOk result (self.new ≡ taken_turn self.old place turn) }
+        ensures world { OnOk result (self.new.world ≡ steps.shown_turned self.old.world place turn.shown turn.messages turn.says) }
+        ensures tables { OnOk result (self.new.tables ≡ self.old.tables) }
     {
         let Turn {
             shown,
-            rows,
             messages,
             says,
         } = turn;
@@ -113,27 +106,23 @@ impl Replay {
         self.world.messages.append(messages)?;
         grow(alloc, &mut self.world.chosen, &shown)?;
         self.nodes[place] = shown;
-        self.tables[place] = rows;
         Ok(())
     }
 
+    /// Takes a node out for its turn, so that it is moved and not copied.
     #[tactic(auto, unfolding(crate::specs::Turns::emptied))]
-    fn take_out(&mut self, alloc: Global, place: usize) -> Taken
-        requires node { place < length self.old.world.nodes }
-        requires rows { place < length self.old.tables }
-        ensures rest { self.new ≡ emptied self.old place }
+    fn take_out(&mut self, alloc: Global, place: usize) -> Shown
+        requires { place < length self.old.world.nodes }
+        ensures rest { self.new.world ≡ emptied self.old.world place }
         ensures events { self.new.world.events ≡ self.old.world.events }
         ensures nodes { length self.new.world.nodes ≡ length self.old.world.nodes }
-        ensures tables { length self.new.tables ≡ length self.old.tables }
-        ensures shown { slice_get self.old.world.nodes place ≡ Some result.shown }
-        ensures rows { slice_get self.old.tables place ≡ Some result.rows }
+        ensures tables { self.new.tables ≡ self.old.tables }
+        ensures shown { slice_get self.old.world.nodes place ≡ Some result }
     {
-        let shown = replaced(&mut self.nodes, place, nobody(alloc));
-        let rows = replaced(&mut self.tables, place, List::new(alloc));
-        Taken { shown, rows }
+        replaced(&mut self.nodes, place, nobody(alloc))
     }
 
-    #[tactic(auto, using(crate::proofs::Held::rows_at, crate::proofs::Held::taken_world, crate::proofs::Held::taken_held))]
+    #[tactic(auto, using(crate::proofs::Held::rows_at, crate::proofs::Held::table_there, crate::proofs::Held::taken_over, crate::proofs::Held::turn_held))]
     fn end(&mut self, alloc: Global, ring: &Ring, place: usize, step: Step) -> Result<(), Memory>
         requires few { self.old.world.events < 2 ^ 64 - 1 }
         requires held { HasTables ring.now self.old }
@@ -141,12 +130,12 @@ impl Replay {
         ensures world { OnOk result (self.new.world ≡ steps.ended_at self.old.world place step (slice_get self.old.world.nodes place)) }
         ensures held { OnOk result (HasTables ring.now self.new) }
     {
-        let Taken { shown, rows } = self.take_out(alloc, place);
-        let turn = ended(alloc, ring, shown, rows, step)?;
+        let shown = self.take_out(alloc, place);
+        let turn = ended(alloc, ring, shown, &mut self.tables[place], step)?;
         self.take_turn(alloc, place, turn)
     }
 
-    #[tactic(auto, using(crate::proofs::Held::rows_at, crate::proofs::Held::taken_world, crate::proofs::Held::taken_held))]
+    #[tactic(auto, using(crate::proofs::Held::taken_over, crate::proofs::Held::turn_kept))]
     fn go_down(&mut self, alloc: Global, ring: &Ring, place: usize) -> Result<(), Memory>
         requires few { self.old.world.events < 2 ^ 64 - 1 }
         requires held { HasTables ring.now self.old }
@@ -154,12 +143,11 @@ impl Replay {
         ensures world { OnOk result (self.new.world ≡ steps.turn_of ring.now self.old.world place GoDown (slice_get self.old.world.nodes place)) }
         ensures held { OnOk result (HasTables ring.now self.new) }
     {
-        let Taken { shown, rows } = self.take_out(alloc, place);
-        let turn = downed(alloc, shown, rows);
-        self.take_turn(alloc, place, turn)
+        let shown = self.take_out(alloc, place);
+        self.take_turn(alloc, place, downed(alloc, shown))
     }
 
-    #[tactic(auto, using(crate::proofs::Held::rows_at, crate::proofs::Held::taken_world, crate::proofs::Held::taken_held))]
+    #[tactic(auto, using(crate::proofs::Held::taken_over, crate::proofs::Held::turn_kept))]
     fn come_up(&mut self, alloc: Global, ring: &Ring, place: usize) -> Result<(), Memory>
         requires few { self.old.world.events < 2 ^ 64 - 1 }
         requires held { HasTables ring.now self.old }
@@ -167,8 +155,8 @@ impl Replay {
         ensures world { OnOk result (self.new.world ≡ steps.turn_of ring.now self.old.world place ComeUp (slice_get self.old.world.nodes place)) }
         ensures held { OnOk result (HasTables ring.now self.new) }
     {
-        let Taken { shown, rows } = self.take_out(alloc, place);
-        let turn = restarted(alloc, shown, rows)?;
+        let shown = self.take_out(alloc, place);
+        let turn = restarted(alloc, shown)?;
         self.take_turn(alloc, place, turn)
     }
 

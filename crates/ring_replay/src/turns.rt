@@ -4,24 +4,22 @@ ghost use Rattle.ring_types.specs.declared.entries.Pair.{Pair};
 ghost use Rattle.ring_types.specs.Logs as logs;
 ghost use Rattle.ring_model.specs.Nodes as nodes;
 ghost use Rattle.ring_model.specs.Dispatch as dispatch;
-ghost use Rattle.ring_model.specs.Writes.{committed_rows};
 ghost use Rattle.ring_model.specs.declared.nodes.Soft.{Soft};
+ghost use Rattle.commit_pipeline.specs.Engines.{engine_tables};
 ghost use Rattle.ring_replay.specs.Steps.{ended_node, downed_node, restarted_node};
 ghost use Rattle.ring_replay.specs.Turns.{turned_to, quiet_turn};
 
-use crate::engines::{Engine, all_after};
+use crate::engines::all_after;
 use node_unit::step;
 use ring_model::{Durable, Input, Message, Mock, Role, Say, Shown, Soft, Step, Transfer};
-use ring_plain::Tables;
 use ring_types::{Duplicate, Entry, List, Memory, Pair, Ring, has_opid};
+use row_engine::Tables;
 use std::alloc::Global;
 
-/// What a turn makes of a node, and what the node then sends and says. `rows` are those that its
-/// engine has applied.
+/// What a turn makes of a node, and what the node then sends and says.
 #[derive(Drop)]
 pub(crate) struct Turn {
     pub shown: Shown,
-    pub rows: Tables,
     pub messages: List<Message>,
     pub says: List<Say>,
 }
@@ -34,7 +32,7 @@ pub(crate) fn answer(
     rows: &Tables,
     input: &Input,
 ) -> Result<Option<Step>, Memory>
-    requires { rows.now ≡ committed_rows ring.now shown.now.durable }
+    requires { rows.now ≡ engine_tables ring.now shown.now.durable }
     ensures { IfOk result (λ it. it ≡ option_map (λ (s : Soft). dispatch.step ring.now shown.now.node shown.now.durable s input.now) shown.now.soft) }
 {
     match &shown.soft {
@@ -43,44 +41,41 @@ pub(crate) fn answer(
     }
 }
 
-/// The turn of a node whose step went to its end.
+/// The turn of a node whose step went to its end. The rows that its engine has applied follow it.
 pub(crate) fn ended(
     alloc: Global,
     ring: &Ring,
     shown: Shown,
-    rows: Tables,
+    rows: &mut Tables,
     step: Step,
 ) -> Result<Turn, Memory>
-    requires { rows ≡ committed_rows ring.now shown.durable }
-    ensures { IfOk result (λ it. it ≡ turned_to ring.now (ended_node shown step) step.plan.messages step.plan.says) }
+    requires { rows.old ≡ engine_tables ring.now shown.durable }
+    ensures turn { IfOk result (λ it. it ≡ turned_to (ended_node shown step) step.plan.messages step.plan.says) }
+    ensures rows { IfOk result (λ it. rows.new ≡ engine_tables ring.now it.shown.durable) }
 {
     let Shown { node, durable, .. } = shown;
     let Step { plan, soft } = step;
-    let engine = Engine { durable, rows };
-    let engine = all_after(alloc, ring, engine, plan.actions.as_slice())?;
-    let Engine { durable, rows } = engine;
+    let durable = all_after(alloc, ring, durable, rows, plan.actions.as_slice())?;
     Ok(Turn {
         shown: Shown {
             node,
             durable,
             soft: Some(soft),
         },
-        rows,
         messages: plan.messages,
         says: plan.says,
     })
 }
 
 /// The turn of a node that goes down.
-pub(crate) fn downed(alloc: Global, shown: Shown, rows: Tables) -> Turn
-    ensures { result ≡ quiet_turn (downed_node shown) rows }
+pub(crate) fn downed(alloc: Global, shown: Shown) -> Turn
+    ensures { result ≡ quiet_turn (downed_node shown) }
 {
     Turn {
         shown: Shown {
             soft: None,
             ..shown
         },
-        rows,
         messages: List::new(alloc),
         says: List::new(alloc),
     }
@@ -126,8 +121,8 @@ pub(crate) fn fresh_soft(alloc: Global, durable: &Durable) -> Soft
 }
 
 /// The turn of a node that comes up.
-pub(crate) fn restarted(alloc: Global, shown: Shown, rows: Tables) -> Result<Turn, Memory>
-    ensures { IfOk result (λ it. it ≡ quiet_turn (restarted_node shown) rows) }
+pub(crate) fn restarted(alloc: Global, shown: Shown) -> Result<Turn, Memory>
+    ensures { IfOk result (λ it. it ≡ quiet_turn (restarted_node shown)) }
 {
     let Shown { node, durable, .. } = shown;
     let soft = fresh_soft(alloc, &durable);
@@ -138,7 +133,6 @@ pub(crate) fn restarted(alloc: Global, shown: Shown, rows: Tables) -> Result<Tur
             durable,
             soft: Some(soft),
         },
-        rows,
         messages: List::new(alloc),
         says: List::new(alloc),
     })

@@ -9,3 +9,5 @@ pub mod Checked
 pub mod OfLog
 -- which place a name has
 pub mod FirstPlaces
+-- which table a name of a built ring has
+pub mod Names

@@ -9,6 +9,7 @@
 //! rows, and [`Tables::apply`] writes in place. [`law_last_change`] says the same of a whole log.
 #![tactic(auto)]
 
+mod commits;
 mod last_change;
 mod laws;
 mod table_rows;

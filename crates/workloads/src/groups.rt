@@ -128,7 +128,8 @@ fn counted(alloc: Global, ring: &Ring, bytes: &[u8]) -> u64 {
     count
 }
 
-fn ring(alloc: Global) -> Result<Option<Ring>, Memory> {
+/// The ring of the workloads: one voter, with a table `t` of a number and a text.
+pub fn ring(alloc: Global) -> Result<Option<Ring>, Memory> {
     match read_ring(alloc, RING) {
         Ok(ring) => Ok(Some(ring)),
         Err(_) => Ok(None),

@@ -1,6 +1,6 @@
 //! Writes and rotates of a leader of term 1 whose log has its NoOp alone.
 ghost use Rattle.std.specs.Prelude.{◌≡◌};
-ghost use Rattle.ring_model.specs.Writes.{committed_rows};
+ghost use Rattle.commit_pipeline.specs.Engines.{engine_tables};
 
 use super::fixtures::{
     GTID, durable, entry, follower, insert, lone, none, noop, one, pair, same, soft, spread, step,
@@ -8,8 +8,8 @@ use super::fixtures::{
 };
 use crate::{rotate, write};
 use ring_model::{Action, Cause, Durable, Pending, Role, Say, Soft, Step, What};
-use ring_plain::{Tables, rows};
 use ring_types::{Change, List, NodeId, Opid, Pair, Payload, Ring};
+use row_engine::Tables;
 use std::process::Abort;
 
 const CLIENT: u32 = 70000;
@@ -24,11 +24,11 @@ pub fn says(rt: &(impl AllocGlobal + Abort), what: What) -> List<Say> {
     )
 }
 
-fn applied_rows(rt: &(impl AllocGlobal + Abort), ring: &Ring, before: &Durable) -> Tables
-    ensures { result ≡ committed_rows ring.now before.now }
+fn applied_tables(rt: &(impl AllocGlobal + Abort), ring: &Ring, before: &Durable) -> Tables
+    ensures { result ≡ engine_tables ring.now before.now }
 {
     let applied = before.log.prefix(before.applied);
-    rows(rt.alloc(), ring.schema(), applied).expect(rt, "memory")
+    Tables::of_entries(rt.alloc(), ring.schema(), applied).expect(rt, "memory")
 }
 
 fn written(
@@ -38,9 +38,9 @@ fn written(
     now: Soft,
     changes: &List<Change>,
 ) -> Step {
-    let rows = applied_rows(rt, ring, before);
+    let tables = applied_tables(rt, ring, before);
     let me = NodeId(1);
-    write(rt.alloc(), ring, me, before, now, &rows, CLIENT, changes).expect(rt, "memory")
+    write(rt.alloc(), ring, me, before, now, &tables, CLIENT, changes).expect(rt, "memory")
 }
 
 /// The step of node 1 on a client's write.
@@ -64,18 +64,6 @@ fn before(rt: &(impl AllocGlobal + Abort)) -> Durable {
 
 fn leader(rt: &(impl AllocGlobal + Abort), commit: u64) -> Soft {
     soft(rt, Role::Leader, commit, 1)
-}
-
-fn rows_before(rt: &(impl AllocGlobal + Abort), ring: Ring, before: Durable) -> Tables {
-    applied_rows(rt, &ring, &before)
-}
-
-#[test]
-fn no_rows_are_there_before(rt: HostRuntime) {
-    let tables: Tables = one(&rt, none(&rt));
-    same(&rt, rows_before(&rt, lone(&rt), before(&rt)), tables);
-    let tables: Tables = one(&rt, none(&rt));
-    same(&rt, rows_before(&rt, three(&rt), before(&rt)), tables);
 }
 
 // ---- a write

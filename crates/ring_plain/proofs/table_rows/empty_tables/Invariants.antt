@@ -1,7 +1,0 @@
--- one table without rows for each table so far
-use Rattle.std.proofs.Common.{◌≡◌, map, take}
-use Rattle.ring_types.specs.Rows.{no_rows}
-use Rattle.ring_plain.proofs.table_rows.empty_tables.Given as goal
-
-abbrev pub invariant-loop : goal.invariant-loop
-invariant-loop l = l.tables ≡ map no_rows (take l.index l.items)
