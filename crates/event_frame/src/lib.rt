@@ -22,7 +22,9 @@ pub use field_readers::{
     FieldFault, constant_at, ended, long_text_at, packed_at, server_at, short_text_at, u8_at,
     u16_at, u32_at, u64_at,
 };
-pub use frames::{Event, FrameError, MOST_BODY_BYTES, put_header, put_sum, read_event, write_event};
+pub use frames::{
+    Event, FrameError, MOST_BODY_BYTES, put_header, put_sum, read_event, write_event,
+};
 pub use laws::{law_event_again, law_event_takes};
 
 #[cfg(test)]

@@ -83,8 +83,8 @@ step_here_by n l e x es true k lt is =
     let q : ℕ × ℕ = (n, l) in
     let at : p ≡ q = cc in
     let gone : after_take e.0 x.0 (max e.1 x.1) (e ∷ (x ∷ es)) ≡ (e.0, max e.1 x.1) ∷ es =
-        ap (λ (ys : List (ℕ × ℕ)). set_value (is_at (nat_cmp e.0)) ys (max e.1 x.1)) (remove_past x.0 e (x ∷ es) lt ∙ ap (λ (ys : List (ℕ × ℕ)). e ∷ ys) (remove_here x es))
-        ∙ set_here (max e.1 x.1) e es in
+    ap (λ (ys : List (ℕ × ℕ)). set_value (is_at (nat_cmp e.0)) ys (max e.1 x.1)) (remove_past x.0 e (x ∷ es) lt ∙ ap (λ (ys : List (ℕ × ℕ)). e ∷ ys) (remove_here x es))
+    ∙ set_here (max e.1 x.1) e es in
     let step : grown e.0 (intervals (e ∷ (x ∷ es))) ≡ swallowed e.0 (max e.1 x.1) (intervals es) = grown_here e.0 e.1 (intervals (x ∷ es)) ∙ rw k refl in
     subst (λ (p : ℕ × ℕ). IsStep e.0 p.0 p.1 (e ∷ (x ∷ es))) at
     (record {
@@ -102,13 +102,13 @@ step_here n l e (x ∷ es) h is =
 step_past : (f n l : ℕ) (e : ℕ × ℕ) (es : List (ℕ × ℕ)) → e.0 < f → f < n → IsStep f n l es → IsStep f n l (e ∷ es)
 step_past f n l e es lt above more =
     let past : after_take f n l (e ∷ es) ≡ e ∷ after_take f n l es =
-        ap (λ (ys : List (ℕ × ℕ)). set_value (is_at (nat_cmp f)) ys l) (remove_past n e es (omega arith)) ∙ set_past f l e (remove_entry (is_at (nat_cmp n)) es) lt in
+    ap (λ (ys : List (ℕ × ℕ)). set_value (is_at (nat_cmp f)) ys l) (remove_past n e es (omega arith)) ∙ set_past f l e (remove_entry (is_at (nat_cmp n)) es) lt in
     record {
       same =
-        ap (λ (ys : List (ℕ × ℕ)). grown f (intervals ys)) past
-        ∙ grown_past f (interval_of e) (intervals (after_take f n l es)) lt
-        ∙ ap (λ (ys : List Interval). interval_of e ∷ ys) more.same
-        ∙ sym (grown_past f (interval_of e) (intervals es) lt);
+          ap (λ (ys : List (ℕ × ℕ)). grown f (intervals ys)) past
+          ∙ grown_past f (interval_of e) (intervals (after_take f n l es)) lt
+          ∙ ap (λ (ys : List Interval). interval_of e ∷ ys) more.same
+          ∙ sym (grown_past f (interval_of e) (intervals es) lt);
       fewer = omega (arith, ap length past, more.fewer);
     }
 

@@ -14,7 +14,7 @@ loop-next-smaller c =
     let es = c.loop-next.ends.entries in
     let step = step_taken f c.in-Some.next c.in-Some.last es c.loop-next.invariant.ordered (sym c.in-Some.ensures) in
     let new : c.set_end.new.ends.entries ≡ after_take f c.in-Some.next c.in-Some.last es =
-        c.set_end.ensures ∙ ap (λ (l : List (ℕ × ℕ)). set_value (is_at (nat_cmp f)) l c.in-Some.last) c.remove.ensures.entries in
+    c.set_end.ensures ∙ ap (λ (l : List (ℕ × ℕ)). set_value (is_at (nat_cmp f)) l c.in-Some.last) c.remove.ensures.entries in
     subst (λ (l : List (ℕ × ℕ)). length l < length es) (sym new) step.fewer
 
 pub loop-next-preserved : goal.loop-next-preserved
@@ -23,9 +23,9 @@ loop-next-preserved c =
     let es = c.loop-next.ends.entries in
     let step = step_taken f c.in-Some.next c.in-Some.last es c.loop-next.invariant.ordered (sym c.in-Some.ensures) in
     let new : c.set_end.new.ends.entries ≡ after_take f c.in-Some.next c.in-Some.last es =
-        c.set_end.ensures ∙ ap (λ (l : List (ℕ × ℕ)). set_value (is_at (nat_cmp f)) l c.in-Some.last) c.remove.ensures.entries in
+    c.set_end.ensures ∙ ap (λ (l : List (ℕ × ℕ)). set_value (is_at (nat_cmp f)) l c.in-Some.last) c.remove.ensures.entries in
     let keys : keys_of c.set_end.new.ends.entries ≡ keys_of c.remove.new.self.entries =
-        ap keys_of c.set_end.ensures ∙ keys-set_value (is_at (nat_cmp f)) c.remove.new.self.entries c.in-Some.last in
+    ap keys_of c.set_end.ensures ∙ keys-set_value (is_at (nat_cmp f)) c.remove.new.self.entries c.in-Some.last in
     record {
       same = ap (λ (l : List (ℕ × ℕ)). grown f (intervals l)) new ∙ step.same ∙ c.loop-next.invariant.same;
       ordered = subst (IsStrictlySortedBy nat_cmp) (sym keys) c.remove.ensures.ordered;

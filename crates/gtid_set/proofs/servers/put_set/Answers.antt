@@ -17,9 +17,9 @@ loop-first-preserved c =
     let server = c.args.set.now.server in
     record {
       whole =
-        ap (ranges_in server (intervals c.next.new.self)) (c.in_ok-put_range.ensures.ok ∙ ap (λ (s : ℕ). range_in s x c.loop-first.servers.items) c.server-server.ensures)
-        ∙ ap (λ (l : List (ℕ × ℕ)). ranges_in server (intervals l) c.loop-first.servers.items) (sym step)
-        ∙ c.loop-first.invariant.whole;
+          ap (ranges_in server (intervals c.next.new.self)) (c.in_ok-put_range.ensures.ok ∙ ap (λ (s : ℕ). range_in s x c.loop-first.servers.items) c.server-server.ensures)
+          ∙ ap (λ (l : List (ℕ × ℕ)). ranges_in server (intervals l) c.loop-first.servers.items) (sym step)
+          ∙ c.loop-first.invariant.whole;
       canonical = rw c.in_ok-put_range.ensures.ok (range_in-canonical 0 c.server-server.result x c.loop-first.servers.items c.loop-first.invariant.canonical (omega arith) fits (omega arith, one.1, one.2, tt));
       merged = (x.last + 1, one.3);
     }
