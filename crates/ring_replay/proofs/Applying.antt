@@ -1,5 +1,5 @@
 -- The rows that an engine has applied, after an action: what keeps them, and what the next entry makes of them.
-use Rattle.std.proofs.Common.{◌≡◌, ℕ, zero, suc, ◌≤◌, List, [], ◌∷◌, ◌++◌, length, take, Some, refl, ap, arith}
+use Rattle.std.proofs.Common.{◌≡◌, ℕ, zero, suc, ◌≤◌, List, [], ◌∷◌, ◌++◌, length, take, Some, refl, sym, ap, ap₂, ◌∙◌, arith}
 use Rattle.std.specs.Prelude.{slice_get}
 use Rattle.std.proofs.lemmas.List.{take-append-le}
 use Rattle.ring_types.specs.declared.entries.Entry.{Entry}
@@ -31,10 +31,14 @@ next_rows ring d position e is at =
     let there : slice_get d.log d.applied ≡ Some e = rw is at at in
     rw is (rw (take_one_more d.log d.applied e there) (rows_from-push ring.schema (empty_tables ring.schema) (take d.applied d.log) e))
 
+filled_is : (t : Filled) (schema : Schema) (tables : Tables) → t.schema ≡ schema → t.rows ≡ tables → t ≡ record { schema = schema; rows = tables }
+filled_is t schema tables a b = ap₂ (λ (x : Schema) (y : Tables). record { schema = x; rows = y }) a b
+
 -- the tables of an engine after the commit of the next entry
 pub next_tables : (ring : Layout) (d : Durable) (position : ℕ) (e : Entry) (t : Filled) → position ≡ suc d.applied → entry_at d.log position ≡ Some e
     → t.schema ≡ ring.schema → t.rows ≡ after_payload ring.schema (committed_rows ring d) e.payload → t ≡ engine_tables ring (done d (action.Commit position))
-next_tables ring d position e t is at schema rows = let n = next_rows ring d position e is at in cc
+next_tables ring d position e t is at same_schema same_rows =
+    filled_is t ring.schema (committed_rows ring (done d (action.Commit position))) same_schema (same_rows ∙ sym (next_rows ring d position e is at))
 
 -- entries added after those that are applied, and a cut that keeps them, leave the rows
 pub rows_appended : (ring : Layout) (d : Durable) (entries : List Entry) → d.applied ≤ length d.log → committed_rows ring (done d (action.Append entries)) ≡ committed_rows ring d

@@ -1,6 +1,6 @@
 -- A replay is one of its ring: at the beginning, and after a turn.
 use Rattle.std.proofs.Common.{◌≡◌, ℕ, zero, suc, ◌<◌, List, [], ◌∷◌, length, map, Option, None, Some, option_map, refl, subst, ap, sym, ◌∙◌}
-use Rattle.std.specs.Prelude.{slice_get, slice_set}
+use Rattle.std.specs.Prelude.{slice_get, slice_set, OnOk, Result, Ok, Err}
 use Rattle.std.proofs.lemmas.List.{length-map, map-set, set-set}
 use Rattle.std.proofs.lemmas.Option.{slice_get-map, slice_get_within}
 use Rattle.ring_types.specs.declared.members.Member.{Member}
@@ -72,7 +72,7 @@ turn_held ring v tables place own t held is =
 
 set_back : {X : Type 0} (xs : List X) (place : ℕ) (x : X) → slice_get xs place ≡ Some x → slice_set xs place x ≡ xs
 set_back [] place x is = refl
-set_back (y ∷ ys) zero x is = ap (λ (z : X). z ∷ ys) (sym (some_same y x is))
+set_back (y ∷ ys) zero x is = ap (λ z. z ∷ ys) (sym (some_same y x is))
 set_back (y ∷ ys) (suc place) x is = ap (λ zs. y ∷ zs) (set_back ys place x is)
 
 -- a turn that leaves a node's engine leaves the tables
@@ -81,6 +81,16 @@ pub turn_kept : (ring : Layout) (v : World) (tables : List Filled) (place : ℕ)
 turn_kept ring v tables place s t held node same =
     let own : slice_get tables place ≡ Some (tables_of ring s) = rw held (slice_get-map (tables_of ring) v.nodes place ∙ ap (option_map (tables_of ring)) node) in
     sym (set_back tables place (tables_of ring s) own) ∙ turn_held ring v tables place (tables_of ring s) t held (sym same)
+
+-- a node that was taken out and put back by such a turn leaves the tables those of the nodes
+pub kept_turn : {E : Type 0} (ring : Layout) (old mid new : ReplayState) (place : ℕ) (s : Shown) (t : Turn) (result : Result (Unit {0}) E) → HasTables ring old
+    → slice_get old.world.nodes place ≡ Some s → tables_of ring t.shown ≡ tables_of ring s → mid.world ≡ emptied old.world place → mid.tables ≡ old.tables
+    → OnOk result (new.world ≡ shown_turned mid.world place t.shown t.messages t.says) → OnOk result (new.tables ≡ mid.tables) → OnOk result (HasTables ring new)
+kept_turn ring old mid new place s t (Ok done) held node same out kept world tables =
+    let turned : new.world ≡ shown_turned old.world place t.shown t.messages t.says =
+    world ∙ (ap (λ (v : World). shown_turned v place t.shown t.messages t.says) out ∙ taken_over old.world place t.shown t.messages t.says) in
+    tables ∙ (kept ∙ (turn_kept ring old.world old.tables place s t held node same ∙ ap (λ (v : World). map (tables_of ring) v.nodes) (sym turned)))
+kept_turn ring old mid new place s t (Err fault) held node same out kept world tables = tt
 
 -- ---- an input at a place
 pub answered_there : (ring : Layout) (i : Input) (nodes : List Shown) (place : ℕ) (st : Step) → answered ring i (slice_get nodes place) ≡ Some st → place < length nodes
