@@ -1,4 +1,4 @@
-ghost use Rattle.std.specs.Prelude.{◌≡◌, ◌+◌, ◌^◌, ◌<◌, ◌≤◌, ◌++◌, IfOk, OnOk, drop, length, take};
+ghost use Rattle.std.specs.Prelude.{◌≡◌, ◌+◌, ◌^◌, ◌<◌, ◌≤◌, ◌++◌, ◌∷◌, IfOk, OnOk, drop, length, take};
 ghost use Rattle.std.specs.List.{flat_map};
 ghost use Rattle.ring_types.specs.Rows as made;
 ghost use Rattle.row_engine.specs.Filled.{AreNamedOnce};
@@ -56,7 +56,16 @@ fn put_table(out: &mut Vec<u8>, table: &Table, rows: &[List<Value>]) -> Result<(
     put_row_lines(out, rows)
 }
 
-#[tactic(auto, using(row_engine::proofs::Names::named_at))]
+/// The rows of the table at a place of the schema.
+#[tactic(auto, using(crate::proofs::Declared::rows_there))]
+fn rows_at(tables: &Tables, place: usize, table: &Table) -> Result<List<List<Value>>, Memory>
+    requires once { AreNamedOnce tables.now.schema }
+    requires there { drop place tables.now.schema.tables ≡ table.now ∷ drop (place + 1) tables.now.schema.tables }
+    ensures { IfOk result (λ it. it ≡ made.rows_at tables.now.rows place) }
+{
+    tables.rows(&table.name)
+}
+
 fn put_tables(
     out: &mut Vec<u8>,
     declared: &[Table],
@@ -71,7 +80,7 @@ fn put_tables(
     match declared {
         [] => Ok(()),
         [table, others @ ..] => {
-            let rows = tables.rows(&table.name)?;
+            let rows = rows_at(tables, place, table)?;
             put_table(out, table, rows.as_slice())?;
             put_tables(out, others, tables, place + 1)
         }
@@ -102,7 +111,6 @@ pub(crate) fn put_applied_tables(
 }
 
 /// Puts a line for each of the declared tables, the first of which has this place.
-#[tactic(auto, using(row_engine::proofs::Names::named_at))]
 fn put_table_lines(
     out: &mut Vec<u8>,
     declared: &[Table],
@@ -117,7 +125,7 @@ fn put_table_lines(
     match declared {
         [] => Ok(()),
         [table, others @ ..] => {
-            let rows = tables.rows(&table.name)?;
+            let rows = rows_at(tables, place, table)?;
             put_table_line(out, table, rows.as_slice())?;
             put_table_lines(out, others, tables, place + 1)
         }
