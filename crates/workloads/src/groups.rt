@@ -128,8 +128,7 @@ fn counted(alloc: Global, ring: &Ring, bytes: &[u8]) -> u64 {
     count
 }
 
-/// The ring of the workloads: one voter, with a table `t` of a number and a text.
-pub fn ring(alloc: Global) -> Result<Option<Ring>, Memory> {
+fn ring(alloc: Global) -> Result<Option<Ring>, Memory> {
     match read_ring(alloc, RING) {
         Ok(ring) => Ok(Some(ring)),
         Err(_) => Ok(None),

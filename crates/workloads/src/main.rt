@@ -4,9 +4,7 @@
 //! - `checksum`: the CRC-32 of 1 MiB;
 //! - `write`: the group of a transaction with one insert, each behind the one before;
 //! - `read`: the same, and then each is read back;
-//! - `ascending`, `scattered`: a number is put into a GTID set, in order or all over the place;
-//! - `rows`: a change of a table of 10,000 rows is checked and applied;
-//! - `conflicts`: a change is held against 10,000 prepared transactions.
+//! - `ascending`, `scattered`: a number is put into a GTID set, in order or all over the place.
 //!
 //! `workloads file COUNT` writes a binary log file with so many such groups to standard output, for
 //! `bench/stock-reader`.
@@ -14,7 +12,6 @@
 //! Nothing here is a test; the gate runs it once with a small count.
 #![tactic(auto)]
 
-mod engines;
 mod groups;
 mod sets;
 
@@ -48,8 +45,6 @@ fn worked(alloc: Global, name: &str, count: u64) -> Result<Option<u64>, Memory> 
         "read" => groups::read(alloc, count)?,
         "ascending" => sets::ascending(alloc, count)?,
         "scattered" => sets::scattered(alloc, count)?,
-        "rows" => engines::applied(alloc, count)?,
-        "conflicts" => engines::conflicts(alloc, count)?,
         _ => return Ok(None),
     };
     Ok(Some(came))
