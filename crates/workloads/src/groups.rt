@@ -128,7 +128,8 @@ fn counted(alloc: Global, ring: &Ring, bytes: &[u8]) -> u64 {
     count
 }
 
-fn ring(alloc: Global) -> Result<Option<Ring>, Memory> {
+/// The ring of one node and one table.
+pub(crate) fn ring(alloc: Global) -> Result<Option<Ring>, Memory> {
     match read_ring(alloc, RING) {
         Ok(ring) => Ok(Some(ring)),
         Err(_) => Ok(None),

@@ -4,7 +4,10 @@
 //! - `checksum`: the CRC-32 of 1 MiB;
 //! - `write`: the group of a transaction with one insert, each behind the one before;
 //! - `read`: the same, and then each is read back;
-//! - `ascending`, `scattered`: a number is put into a GTID set, in order or all over the place.
+//! - `ascending`, `scattered`: a number is put into a GTID set, in order or all over the place;
+//! - `rows`: an insert, an update or a delete, in turn, is checked and applied to a table of 10,000
+//!   rows;
+//! - `conflicts`: a change is held against the keys of 10,000 prepared transactions.
 //!
 //! `workloads file COUNT` writes a binary log file with so many such groups to standard output, for
 //! `bench/stock-reader`.
@@ -12,6 +15,7 @@
 //! Nothing here is a test; the gate runs it once with a small count.
 #![tactic(auto)]
 
+mod engines;
 mod groups;
 mod sets;
 
@@ -40,14 +44,16 @@ fn checksums(alloc: Global, count: u64) -> Result<u64, Memory> {
 /// What came of the work of this name; nothing if there is no such work.
 fn worked(alloc: Global, name: &str, count: u64) -> Result<Option<u64>, Memory> {
     let came = match name {
-        "checksum" => checksums(alloc, count)?,
-        "write" => groups::written(alloc, count)?,
-        "read" => groups::read(alloc, count)?,
-        "ascending" => sets::ascending(alloc, count)?,
-        "scattered" => sets::scattered(alloc, count)?,
+        "checksum" => checksums(alloc, count),
+        "write" => groups::written(alloc, count),
+        "read" => groups::read(alloc, count),
+        "ascending" => sets::ascending(alloc, count),
+        "scattered" => sets::scattered(alloc, count),
+        "rows" => engines::changed(alloc, count),
+        "conflicts" => engines::held(alloc, count),
         _ => return Ok(None),
     };
-    Ok(Some(came))
+    Ok(Some(came?))
 }
 
 fn status(is_done: bool) -> ExitCode {
