@@ -22,8 +22,6 @@ mod refusals;
 mod roles;
 mod rotations;
 mod steps;
-#[cfg(test)]
-mod tests;
 mod writes;
 
 pub use actions::{all_done, done, has_room, vote_in};

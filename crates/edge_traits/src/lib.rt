@@ -19,8 +19,6 @@ mod shelves;
 mod sinks;
 mod steady_shelves;
 mod steady_sinks;
-#[cfg(test)]
-mod tests;
 
 pub use files::ShelfFile;
 pub use memory_shelves::MemoryShelf;

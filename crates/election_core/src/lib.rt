@@ -15,8 +15,6 @@ mod leading;
 mod replies;
 mod requests;
 mod standing;
-#[cfg(test)]
-mod tests;
 
 pub use replies::on_reply;
 pub use requests::on_request;

@@ -13,8 +13,6 @@
 mod files;
 mod groups;
 mod laws;
-#[cfg(test)]
-mod tests;
 
 pub use files::file_sizes;
 pub use groups::{EntryError, EntryRead, read_entry, write_entry};

@@ -23,6 +23,3 @@ pub use heads::{Head, read_head, write_head};
 pub use laws::{law_head, law_opid, law_rotation};
 pub use opid_events::{OpidEvent, read_opid, write_opid};
 pub use rotations::{Rotation, read_rotate, six_digits, write_rotate};
-
-#[cfg(test)]
-mod tests;

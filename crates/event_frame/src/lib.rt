@@ -26,6 +26,3 @@ pub use frames::{
     Event, FrameError, MOST_BODY_BYTES, put_header, put_sum, read_event, write_event,
 };
 pub use laws::{law_event_again, law_event_takes};
-
-#[cfg(test)]
-mod tests;

@@ -28,6 +28,3 @@ pub use faults::TxnError;
 pub use laws::{law_txn_again, law_txn_front, law_txn_length, law_txn_takes};
 pub use reading::{TxnRead, read_txn};
 pub use writing::write_txn;
-
-#[cfg(test)]
-mod tests;

@@ -15,8 +15,6 @@
 
 mod needs;
 mod quorums;
-#[cfg(test)]
-mod tests;
 
 pub use needs::{need, votes_between, wins};
 pub use quorums::{commits, covers, is_listed, zone};

@@ -25,8 +25,6 @@ mod intervals;
 mod laws;
 mod servers;
 mod sets;
-#[cfg(test)]
-mod tests;
 mod texts;
 
 pub use faults::SetError;

@@ -13,8 +13,6 @@ mod lines;
 mod reading;
 mod replaying;
 mod stops;
-#[cfg(test)]
-mod tests;
 mod words;
 
 pub use command::run;

@@ -25,8 +25,6 @@ mod keeping;
 mod laws;
 mod moves;
 mod refusals;
-#[cfg(test)]
-mod tests;
 mod transactions;
 
 pub use laws::{law_engine_follows, law_no_conflict};

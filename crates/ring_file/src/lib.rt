@@ -9,8 +9,6 @@ mod faults;
 mod keys;
 mod reading;
 mod tables;
-#[cfg(test)]
-mod tests;
 mod values;
 
 pub use faults::RingError;

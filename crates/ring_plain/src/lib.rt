@@ -8,8 +8,6 @@ mod fitting;
 mod gtid_numbers;
 mod lists;
 mod sizes;
-#[cfg(test)]
-mod tests;
 
 pub use fitting::{
     changes_fit, fits_table, has_this_key, is_null, payload_fits, place_in, same_value, table_name,

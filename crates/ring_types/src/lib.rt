@@ -29,8 +29,6 @@ mod ranges;
 mod refusals;
 mod rings;
 mod schemas;
-#[cfg(test)]
-mod tests;
 mod texts;
 mod values;
 

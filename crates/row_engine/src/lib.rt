@@ -14,8 +14,6 @@ mod last_change;
 mod laws;
 mod table_rows;
 mod tables;
-#[cfg(test)]
-mod tests;
 
 pub use laws::law_last_change;
 pub use tables::Tables;

@@ -20,6 +20,3 @@ mod suffixes;
 
 pub use faults::ScheduleError;
 pub use schedules::read_schedule;
-
-#[cfg(test)]
-mod tests;

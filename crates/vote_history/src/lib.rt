@@ -16,7 +16,5 @@
 
 mod by_term;
 mod histories;
-#[cfg(test)]
-mod tests;
 
 pub use histories::{Full, History};

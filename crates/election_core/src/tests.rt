@@ -1,6 +1,0 @@
-//! Elections whose every action is worked out by hand from the rules.
-//!
-//! Each test is a few calls of small functions that hand on what they make: the proof of a function
-//! costs most where it lets go of several values or borrows them.
-mod elections;
-mod fixtures;

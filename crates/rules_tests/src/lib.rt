@@ -1,0 +1,22 @@
+//! The tests of the floor of rules, worked out by hand: needed regions (`flexi_quorum`), writes, refusals
+//! and commit counts (`commit_pipeline`) and elections (`election_core`).
+//!
+//! They call public functions alone, and stand in a crate of their own since a crate with tests is
+//! proved twice, alone and with them. Want of memory ends a test.
+//!
+//! Each test is a few calls of small functions that hand on what they make: the proof of a function
+//! costs most where it lets go of several values or borrows them.
+#![tactic(auto)]
+
+#[cfg(test)]
+mod commits;
+#[cfg(test)]
+mod elections;
+#[cfg(test)]
+mod fixtures;
+#[cfg(test)]
+mod needs;
+#[cfg(test)]
+mod refusals;
+#[cfg(test)]
+mod writes;
