@@ -21,4 +21,4 @@ pub use messages::{
     ProxyAppend, RequestVote, VoteReply,
 };
 pub use nodes::{Durable, Mock, Peer, Pending, Role, Soft, Transfer};
-pub use worlds::{CutAt, Event, Kept, Line, Said, Shown, World};
+pub use worlds::{Event, Kept, Line, Said, Shown, World};

@@ -3,7 +3,7 @@ ghost use Rattle.std.specs.Prelude.{◌≡◌, IfOk};
 use crate::effects::Say;
 use crate::messages::{Input, Message};
 use crate::nodes::{Durable, Soft};
-use ring_types::{Duplicate, Entry, Keep, List, Memory, NodeId};
+use ring_types::{CutAt, Duplicate, Entry, List, Memory, NodeId};
 use std::alloc::Global;
 
 /// A node as it is shown; `soft` is None where the node is down.
@@ -65,14 +65,6 @@ pub enum Line {
     Again(NodeId),
     Crash(NodeId),
     Restart(NodeId),
-}
-
-/// A suffix of a line: the call of the node's disk, counted from 1 in this event, at which the disk
-/// stops or fails.
-#[derive(Clone, Copy, PartialEq)]
-pub enum CutAt {
-    Stop { call: u64, keep: Keep },
-    Fail { call: u64 },
 }
 
 fn copy_soft(alloc: Global, soft: &Option<Soft>) -> Result<Option<Soft>, Memory>

@@ -97,7 +97,7 @@ pub struct Pair {
     pub txn: Txn,
 }
 
-/// The first change, counted from 1, that writes a key which a prepared transaction writes, and
+/// The first change, counted from 0, that writes a key which a prepared transaction writes, and
 /// that transaction's opid.
 #[derive(Clone, Copy)]
 pub struct Conflict {
@@ -111,6 +111,15 @@ pub enum Keep {
     Nothing,
     Half,
     All,
+}
+
+/// Where a node's disk stops or fails: at which of its calls, counted from 1 in an event.
+#[derive(Clone, Copy, PartialEq)]
+pub enum CutAt {
+    /// At this call and all later ones, until a crash, which keeps that part of each write.
+    Stop { call: u64, keep: Keep },
+    /// At this call alone.
+    Fail { call: u64 },
 }
 
 impl Duplicate for Opid {

@@ -34,7 +34,7 @@ mod values;
 
 pub use duplication::{Duplicate, Memory};
 pub use entries::{
-    Anchor, Conflict, Entry, Grant, Keep, NodeId, Opid, Pair, Payload, Place, RegionId, Vote,
+    Anchor, Conflict, CutAt, Entry, Grant, Keep, NodeId, Opid, Pair, Payload, Place, RegionId, Vote,
 };
 pub use gtid_sets::{Interval, ServerSet};
 pub use limits::{

@@ -3,7 +3,7 @@ use Rattle.std.proofs.Common.{◌≡◌, ℕ, true, false, List, [], ◌∷◌, 
 use Rattle.std.proofs.lemmas.List.{append-nil}
 use Rattle.ring_types.specs.declared.values.Value.{Value}
 use Rattle.ring_types.specs.declared.values.Change.{Change}
-use Rattle.ring_model.specs.declared.worlds.CutAt.{CutAt}
+use Rattle.ring_types.specs.declared.entries.CutAt.{CutAt}
 use Rattle.schedule_text.specs.Cutting.{Word, first_of}
 use Rattle.schedule_text.specs.Values.{value_of}
 use Rattle.schedule_text.specs.Changes.{begins_suffix, row_of, change_of, next_words, cut_of, changes_of}

@@ -6,8 +6,8 @@ use Rattle.ring_types.specs.declared.entries.Keep.TheVariants as keep
 use Rattle.ring_types.specs.declared.values.Value.{Value}
 use Rattle.ring_types.specs.declared.values.Change.{Change}
 use Rattle.ring_types.specs.declared.values.Change.TheVariants as change
-use Rattle.ring_model.specs.declared.worlds.CutAt.{CutAt}
-use Rattle.ring_model.specs.declared.worlds.CutAt.TheVariants as cut
+use Rattle.ring_types.specs.declared.entries.CutAt.{CutAt}
+use Rattle.ring_types.specs.declared.entries.CutAt.TheVariants as cut
 use Rattle.schedule_text.specs.Cutting.{Word, words, first_of}
 use Rattle.schedule_text.specs.Numbers.{call_of}
 use Rattle.schedule_text.specs.Values.{value_of}

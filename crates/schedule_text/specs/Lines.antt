@@ -4,7 +4,7 @@ use Rattle.std.specs.Str.{is_utf8}
 use Rattle.ring_model.specs.declared.messages.Input.TheVariants as input
 use Rattle.ring_model.specs.declared.worlds.Line.{Line}
 use Rattle.ring_model.specs.declared.worlds.Line.TheVariants as line
-use Rattle.ring_model.specs.declared.worlds.CutAt.{CutAt}
+use Rattle.ring_types.specs.declared.entries.CutAt.{CutAt}
 use Rattle.schedule_text.specs.Cutting.{Word, words, parts, first_of}
 use Rattle.schedule_text.specs.Numbers.{number_of, node_of}
 use Rattle.schedule_text.specs.Changes.{cut_of, changes_of}

@@ -7,8 +7,7 @@ use crate::cutting::{is, next_part, no_more_words, provided, text, word};
 use crate::faults::LineError;
 use crate::rows::{row, value};
 use crate::suffixes::cut_at;
-use ring_model::CutAt;
-use ring_types::{Change, List, Text, Value, is_name};
+use ring_types::{Change, CutAt, List, Text, Value, is_name};
 use std::alloc::Global;
 
 /// The table's name, which must be a name.

@@ -8,8 +8,8 @@ use crate::cutting::{cut, is, is_utf8, no_more_parts, no_more_words, provided, w
 use crate::faults::LineError;
 use crate::numbers::{node, number};
 use crate::suffixes::cut_at;
-use ring_model::{CutAt, Input, Line};
-use ring_types::{List, NodeId};
+use ring_model::{Input, Line};
+use ring_types::{CutAt, List, NodeId};
 use std::alloc::Global;
 
 /// What a line says: its event without the line's number.

@@ -6,8 +6,7 @@ ghost use Rattle.schedule_text.specs.Changes.{keep_of, suffix_of, cut_of};
 use crate::cutting::{is, next_word, no_more_words, word};
 use crate::faults::LineError;
 use crate::numbers::call;
-use ring_model::CutAt;
-use ring_types::Keep;
+use ring_types::{CutAt, Keep};
 
 fn keep(word: &[u8]) -> Result<Keep, LineError>
     ensures { Gives (λ k. k) result (keep_of word.now) }

@@ -3,8 +3,8 @@ mod changes;
 mod faults;
 mod short;
 
-use ring_model::{CutAt, Event, Input, Line};
-use ring_types::{Keep, List, NodeId};
+use ring_model::{Event, Input, Line};
+use ring_types::{CutAt, Keep, List, NodeId};
 use schedule_text::{ScheduleError, read_schedule};
 use std::alloc::Global;
 

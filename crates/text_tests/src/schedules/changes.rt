@@ -1,6 +1,6 @@
 use super::{at, fail, stands_for, stop};
-use ring_model::{CutAt, Event, Input};
-use ring_types::{Change, Keep, List, Memory, Text, Value};
+use ring_model::{Event, Input};
+use ring_types::{Change, CutAt, Keep, List, Memory, Text, Value};
 use std::alloc::Global;
 use std::test::Fail;
 

@@ -1,6 +1,6 @@
 use super::{at, fail, stands_for, stop};
-use ring_model::{CutAt, Event, Input, Line};
-use ring_types::{Keep, NodeId};
+use ring_model::{Event, Input, Line};
+use ring_types::{CutAt, Keep, NodeId};
 use std::test::Fail;
 
 #[test]
