@@ -1,3 +1,7 @@
+//! Shelves and sinks; links and views have files of their own.
+mod links;
+mod views;
+
 ghost use Rattle.std.specs.Prelude.{◌≡◌, ◌≢◌, ◌≤◌, ◌++◌, Err, IfOk, OnOk, IfSome, Some, is_some, length};
 ghost use Rattle.edge_traits.specs.Counts.{Rose};
 ghost use Rattle.edge_traits.specs.Fetches.{FetchIs, FetchFails};
