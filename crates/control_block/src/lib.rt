@@ -12,7 +12,7 @@
 //! | 4 | 4 | the size, least byte first |
 //! | 8 | size | the bytes |
 //!
-//! If one gate is open, that slot wins. If both are, the slot wins whose tag follows the other's, where 0
+//! If one gate is open, that slot wins. If both are, the slot wins whose tag follows the other's; 0
 //! follows 2. If neither tag does, or if the size of the winner is above 32,768, the file is damaged. If
 //! no gate is open, there are no bytes, nor are there in a file of at most 65,552 bytes, which is not laid
 //! out yet.
@@ -31,8 +31,8 @@
 //! its tag follows, in the second this gate is closed. After the third this tag follows. A gate that is
 //! closed already is not written: a crash could leave it open before the slot behind it is whole.
 //!
-//! After a fault of the disk, or where memory was wanting, a switch may be half done, and the block no
-//! longer says what the file holds. Let it go and mount the file again.
+//! A switch that answers `Disk` or `Memory` may be half done, and the block no longer says what the file
+//! holds. Let it go and mount the file again.
 #![tactic(auto)]
 
 mod blocks;

@@ -24,7 +24,7 @@ abbrev pub after_send : {E : Type 0} → Sent → Result (Unit {0}) E → Traffi
 after_send message (Ok _) t = record t { sent = t.sent ++ message ∷ [] }
 after_send message (Err _) t = t
 
--- a fault of the link comes only where the count of faults rose
+-- a fault of the link comes only if the count of faults rose
 abbrev pub LinkFails : {T : Type 0} → ℕ → ℕ → Result T LinkFault → Type 0
 LinkFails before now (Err fault.Failed) = Rose before now
 LinkFails before now _ = Unit {0}

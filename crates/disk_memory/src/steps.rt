@@ -1,0 +1,26 @@
+use crate::edits::Edit;
+use edge_traits::{FileId, Setting};
+use ring_types::Keep;
+
+/// What was done to a disk in memory, as far as its files and turns tell.
+#[derive(Drop)]
+pub(crate) enum Step {
+    /// A file was edited.
+    Edit {
+        file: FileId,
+        edit: Edit,
+    },
+    /// A file was synced.
+    Sync {
+        file: FileId,
+    },
+    /// The disk crashed.
+    Crash {
+        keep: Keep,
+    },
+    /// A turn ended, which had this setting and so many calls.
+    Turn {
+        setting: Option<Setting>,
+        calls: u64,
+    },
+}
