@@ -1,7 +1,8 @@
 -- The block that is read from a file is the one that it stands for.
-use Rattle.std.proofs.Common.{◌≡◌, ℕ, List, Some, None, ◌∙◌, ap, subst, sym}
-use Rattle.std.specs.Prelude.{option_map}
-use Rattle.edge_traits.specs.FileStates.{FileState, MayLeave}
+use Rattle.std.proofs.Common.{◌≡◌, ℕ, List, Some, None, Result, Ok, Err, ◌∙◌, ap, subst, sym}
+use Rattle.std.specs.Prelude.{option_map, IfOk}
+use Rattle.edge_traits.specs.FileStates.{FileState, Files, MayLeave}
+use Rattle.edge_traits.specs.declared.disks.FileId.{FileId}
 use Rattle.edge_traits.proofs.FileStates.{settled_only}
 use Rattle.control_block.specs.ControlFiles.{content_of, head_of, winner, winner_of, control_of}
 use Rattle.control_block.specs.Blocks.{Stands, IsLaidOut, place_of}
@@ -34,3 +35,9 @@ module _ (file : FileState) (laid : IsLaidOut file) where
 pub stands_left : (block : ControlBlock) (file : FileState) → Stands block file → (left : List ℕ) → MayLeave file left → control_of left ≡ Some block.bytes
 stands_left block file stands left may = ap control_of (settled_only file.bytes left (subst (λ f. MayLeave f left) stands.synced may))
     ∙ stands_for block file stands
+
+-- a block that stands for a file stands for its own
+pub own_file : {F : Type 0} (r : Result ControlBlock F) (files : Files) (file : FileId) → IfOk r (λ block. Stands block (files file))
+    → IfOk r (λ block. block.file ≡ file) → IfOk r (λ block. Stands block (files block.file))
+own_file (Ok block) files file stands is = subst (λ f. Stands block (files f)) (sym is) stands
+own_file (Err fault) files file stands is = tt

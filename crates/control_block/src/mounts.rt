@@ -126,7 +126,7 @@ impl ControlBlock {
         disk: &mut D,
         file: FileId,
     ) -> Result<ControlBlock, ControlFault>
-        ensures stands { D.tells disk.old ≡ true → IfOk result (λ block. Stands block (D.files disk.new file)) }
+        ensures stands { D.tells disk.old ≡ true → IfOk result (λ block. Stands block (D.files disk.new block.file)) }
         ensures holds { D.tells disk.old ≡ true → IfOk result (λ block. control_of (D.files disk.old file).bytes ≡ Some block.bytes) }
         ensures file { IfOk result (λ block. block.file ≡ file) }
         ensures damaged { D.tells disk.old ≡ true → (result ≡ Err fault.Damaged) → control_of (D.files disk.old file).bytes ≡ None }

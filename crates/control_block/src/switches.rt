@@ -16,7 +16,7 @@ impl ControlBlock {
     /// mounted. After `Disk` or `Memory` mount the file again: it holds the old bytes or the new.
     pub fn switch<D: Disk>(&mut self, disk: &mut D, bytes: &[u8]) -> Result<(), ControlFault>
         requires { D.tells disk.old ≡ true → Stands self.old (D.files disk.old self.old.file) }
-        ensures stands { D.tells disk.old ≡ true → OnOk result (Stands self.new (D.files disk.new self.old.file)) }
+        ensures stands { D.tells disk.old ≡ true → OnOk result (Stands self.new (D.files disk.new self.new.file)) }
         ensures holds { D.tells disk.old ≡ true → OnOk result (control_of (D.files disk.new self.old.file).bytes ≡ Some (Some bytes.now)) }
         ensures bytes { OnOk result (self.new.bytes ≡ Some bytes.now) }
         ensures file { self.new.file ≡ self.old.file }

@@ -19,7 +19,7 @@ pub returns-clause-stands : goal.returns-clause-stands
 returns-clause-stands g c told =
     let same : c.in_ok-to_vec.field-0.items ≡ c.args.bytes.now = search rules in
     let held = c.turn.ensures ∙ ap (turned c.args.self.now) (c.from_vec-held.ensures ∙ same) in
-    subst (λ b. Stands b (g.D.Disk.files c.write_slot.new.disk c.args.self.now.file)) (sym held)
+    subst (λ (b : ControlBlock). Stands b (g.D.Disk.files c.write_slot.new.disk b.file)) (sym held)
     (stands_again c.args.self.now c.args.bytes.now _ (c.in_ok-write_slot.ensures.here told))
 
 pub returns-clause-bytes : goal.returns-clause-bytes
