@@ -3,3 +3,10 @@ pub mod Files
 pub mod Calls
 pub mod Fetches
 pub mod Puts
+pub mod FileStates
+pub mod DiskCalls
+pub mod Moments
+pub mod Stories
+pub mod Views
+pub mod Works
+pub mod Links

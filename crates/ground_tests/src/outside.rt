@@ -1,9 +1,11 @@
+//! What shelves give and sinks take, and whose failure a caller of both tells.
 ghost use Rattle.std.specs.Prelude.{◌≡◌, ◌≢◌, ◌≤◌, ◌++◌, Err, IfOk, OnOk, IfSome, Some, is_some, length};
 ghost use Rattle.edge_traits.specs.Counts.{Rose};
 ghost use Rattle.edge_traits.specs.Fetches.{FetchIs, FetchFails};
 ghost use Rattle.edge_traits.specs.Files.{held};
 ghost use Rattle.edge_traits.specs.Puts.{PutIs, PutFails};
 
+use super::fixtures::numbers;
 use edge_traits::{
     FetchError, MemoryShelf, MemorySink, Shelf, ShelfFile, Sink, SinkFault, SteadyShelf, SteadySink,
 };
@@ -99,10 +101,6 @@ fn files(alloc: Global) -> Result<List<ShelfFile>, AllocError> {
     files.push(file(alloc, "b", "12345")?)?;
     files.push(file(alloc, "a", "two")?)?;
     Ok(files)
-}
-
-fn numbers(alloc: Global, of: &[u64]) -> Result<List<u64>, AllocError> {
-    Ok(List::from_vec(of.to_vec(alloc)?))
 }
 
 /// The bytes of a file, or a word for why there are none.

@@ -1,0 +1,24 @@
+use Rattle.std.proofs.Common.{◌∙◌, ap, sym, refl}
+use Rattle.disk_memory.specs.declared.edits.Edit.TheVariants as edit
+use Rattle.disk_memory.specs.declared.steps.Step.TheVariants as step
+use Rattle.disk_memory.specs.Pasts.{DiskState}
+use Rattle.disk_memory.specs.Meters.{fails_next}
+use Rattle.disk_memory.proofs.PastLaws.{past_push}
+use Rattle.disk_memory.proofs.memory_disks.MemoryDisk.call_cut.Goals as goal
+
+pub returns-clause-state : goal.returns-clause-state
+returns-clause-state c = (
+  rw (c.in-Ok.ensures.ok, past_push c.self.inside.steps.items (step.Edit c.args.file (edit.Cut c.args.to)), c.tick.ensures.state, ← c.self.view_is) refl,
+  ap (λ (d : DiskState). fails_next d.meter) (sym c.self.view_is) ∙ sym c.tick.ensures.fails ∙ c.if-tick.false,
+)
+
+pub returns-clause-past : goal.returns-clause-past
+returns-clause-past c = rw (c.in-Ok.ensures.ok, past_push c.self.inside.steps.items (step.Edit c.args.file (edit.Cut c.args.to)), ← c.self.view_is) refl
+
+pub returns-clause-story : goal.returns-clause-story
+returns-clause-story c = rw (
+  c.in-Ok.ensures.ok,
+  past_push c.self.inside.steps.items (step.Edit c.args.file (edit.Cut c.args.to)),
+  c.tick.ensures.state,
+  ← c.self.view_is,
+) refl
