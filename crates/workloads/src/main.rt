@@ -7,7 +7,9 @@
 //! - `ascending`, `scattered`: a number is put into a GTID set, in order or all over the place;
 //! - `rows`: an insert, an update or a delete, in turn, is checked and applied to a table of 10,000
 //!   rows;
-//! - `conflicts`: a change is held against the keys of 10,000 prepared transactions.
+//! - `conflicts`: a change is held against the keys of 10,000 prepared transactions;
+//! - `disk`: a call of a disk in memory, in turn four writes of 100 bytes at the end of a file and a sync;
+//! - `switch`: a control file is switched to 1,000 bytes.
 //!
 //! `workloads file COUNT` writes a binary log file with so many such groups to standard output, for
 //! `bench/stock-reader`.
@@ -15,6 +17,7 @@
 //! Nothing here is a test; the gate runs it once with a small count.
 #![tactic(auto)]
 
+mod disks;
 mod engines;
 mod groups;
 mod sets;
@@ -51,6 +54,8 @@ fn worked(alloc: Global, name: &str, count: u64) -> Result<Option<u64>, Memory> 
         "scattered" => sets::scattered(alloc, count),
         "rows" => engines::changed(alloc, count),
         "conflicts" => engines::held(alloc, count),
+        "disk" => Ok(disks::written(alloc, count)),
+        "switch" => disks::switched(alloc, count),
         _ => return Ok(None),
     };
     Ok(Some(came?))
