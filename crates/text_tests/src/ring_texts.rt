@@ -5,7 +5,6 @@ mod rings;
 use ring_file::read_ring;
 use std::alloc::{AllocError, Global};
 use std::process::Abort;
-use std::test::Fail;
 
 /// A ring file with two nodes, a client and two tables.
 const LINES: [&str; 24] = [
@@ -35,17 +34,35 @@ const LINES: [&str; 24] = [
     "columns = [\"id int\"]",
 ];
 
+/// Adds a text in which each `%` stands for the end of a line.
+fn add_lines(text: &mut String, lines: &str) -> Result<(), AllocError> {
+    for letter in lines.chars() {
+        text.push(if letter == '%' { '\n' } else { letter })?;
+    }
+    Ok(())
+}
+
+/// The line of that place, or what stands for it.
+fn line_at<'a>(
+    index: usize,
+    line: &'a str,
+    one: (usize, &'a str),
+    two: (usize, &'a str),
+) -> &'a str {
+    if index == one.0 {
+        one.1
+    } else if index == two.0 {
+        two.1
+    } else {
+        line
+    }
+}
+
 /// The ring file with two of its lines replaced; a line past the last changes nothing.
 fn edited(alloc: Global, one: (usize, &str), two: (usize, &str)) -> Result<String, AllocError> {
     let mut text = String::new(alloc);
     for (index, line) in LINES.iter().enumerate() {
-        if index == one.0 {
-            text.push_str(one.1)?;
-        } else if index == two.0 {
-            text.push_str(two.1)?;
-        } else {
-            text.push_str(line)?;
-        }
+        add_lines(&mut text, line_at(index, line, one, two))?;
         text.push('\n')?;
     }
     Ok(text)
@@ -59,15 +76,21 @@ fn answer(alloc: Global, bytes: &[u8]) -> Result<String, AllocError> {
     }
 }
 
-/// Expects this answer to the ring file with two lines replaced.
-fn answers(
-    rt: &(impl AllocGlobal + Abort),
-    one: (usize, &str),
-    two: (usize, &str),
-    wanted: &str,
-) -> Result<(), Fail> {
-    let text = edited(rt.alloc(), one, two)?;
-    let given = answer(rt.alloc(), text.as_bytes())?;
+/// Expects this answer to a file.
+fn says(rt: &(impl AllocGlobal + Abort), bytes: &[u8], wanted: &str) {
+    let given = answer(rt.alloc(), bytes).expect(rt, "memory");
     assert_eq!(rt; given.as_str(), wanted);
-    Ok(())
+}
+
+/// Expects this answer to a file in which each `%` stands for the end of a line.
+fn says_lines(rt: &(impl AllocGlobal + Abort), lines: &str, wanted: &str) {
+    let mut text = String::new(rt.alloc());
+    add_lines(&mut text, lines).expect(rt, "memory");
+    says(rt, text.as_bytes(), wanted);
+}
+
+/// Expects this answer to the ring file with two lines replaced.
+fn answers(rt: &(impl AllocGlobal + Abort), one: (usize, &str), two: (usize, &str), wanted: &str) {
+    let text = edited(rt.alloc(), one, two).expect(rt, "memory");
+    says(rt, text.as_bytes(), wanted);
 }

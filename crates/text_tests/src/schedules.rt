@@ -7,6 +7,7 @@ use ring_model::{Event, Input, Line};
 use ring_types::{CutAt, Keep, List, NodeId};
 use schedule_text::{ScheduleError, read_schedule};
 use std::alloc::Global;
+use std::process::Abort;
 
 /// Whether the text is a schedule of this one event and no other.
 fn stands_for(alloc: Global, text: &str, event: &Event) -> bool {
@@ -14,6 +15,12 @@ fn stands_for(alloc: Global, text: &str, event: &Event) -> bool {
         Ok(events) => events.len() == 1 && events.as_slice().first() == Some(event),
         Err(_) => false,
     }
+}
+
+/// Expects the text to be a schedule of this one event, which may be cut.
+fn takes(rt: &(impl AllocGlobal + Abort), text: &str, what: Line, cut: Option<CutAt>) {
+    let event = Event { line: 1, what, cut };
+    assert!(rt; stands_for(rt.alloc(), text, &event), "{text}");
 }
 
 /// How many events a text stands for.

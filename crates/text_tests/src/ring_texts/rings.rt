@@ -1,9 +1,8 @@
-use super::answer;
+use super::says;
 use ring_file::read_ring;
 use ring_types::{Kind, Ring, Shape};
 use std::alloc::{AllocError, Global};
 use std::process::Abort;
-use std::test::Fail;
 
 /// The server of the first node.
 const FIRST: u128 = 0x3e11_fa47_71ca_11e1_9e33_c80a_a942_9562;
@@ -84,77 +83,93 @@ fn schema_of(alloc: Global, ring: &Ring) -> Result<String, AllocError> {
     Ok(text)
 }
 
-/// Expects the ring text to be read as this ring, with the servers one after another.
-fn reads(
-    rt: &(impl AllocGlobal + Abort),
-    regions: &str,
-    nodes: &str,
-    wanted: &str,
-) -> Result<(), Fail> {
-    let text = ring_text(rt.alloc(), regions, nodes)?;
-    let ring = read_ring(rt.alloc(), text.as_bytes())?;
-    assert_eq!(rt; described(rt.alloc(), &ring)?.as_str(), wanted);
-    assert_eq!(rt;
-        schema_of(rt.alloc(), &ring)?.as_str(),
-        "app t id:int name:20"
-    );
+/// Whether the servers stand one after another.
+fn are_in_order(ring: &Ring) -> bool {
     let mut server = FIRST;
     for member in ring.members().as_slice() {
-        assert_eq!(rt; member.server, server);
+        if member.server != server {
+            return false;
+        }
         server = server.wrapping_add(1);
     }
-    Ok(())
+    true
+}
+
+fn is_described(rt: &(impl AllocGlobal + Abort), ring: &Ring, wanted: &str) {
+    let members = described(rt.alloc(), ring).expect(rt, "memory");
+    assert_eq!(rt; members.as_str(), wanted);
+    let schema = schema_of(rt.alloc(), ring).expect(rt, "memory");
+    assert_eq!(rt; schema.as_str(), "app t id:int name:20");
+}
+
+fn ring_of(rt: &(impl AllocGlobal + Abort), regions: &str, nodes: &str) -> Ring {
+    let text = ring_text(rt.alloc(), regions, nodes).expect(rt, "memory");
+    read_ring(rt.alloc(), text.as_bytes()).expect(rt, "a ring")
+}
+
+/// Expects the ring text to be read as this ring, with the servers one after another.
+fn reads(rt: &(impl AllocGlobal + Abort), regions: &str, nodes: &str, wanted: &str) {
+    let ring = ring_of(rt, regions, nodes);
+    is_described(rt, &ring, wanted);
+    assert!(rt; are_in_order(&ring));
 }
 
 #[test]
-fn rings_are_read(rt: HostRuntime) -> Result<(), Fail> {
+fn rings_of_one_region_are_read(rt: HostRuntime) {
     let east = "\"east\"";
+    reads(&rt, east, "e", "1 east 1F1");
+    reads(&rt, east, "ee", "1 east 1F1 2F1");
+    reads(&rt, east, "eee", "1 east 1F1 2F1 3F1");
+    reads(&rt, east, "ete", "1 east 1F1 2T1 3F1");
+    reads(&rt, east, "el", "1 east 1F1 2L1");
+}
+
+#[test]
+fn rings_of_several_regions_are_read(rt: HostRuntime) {
     let both = "\"east\", \"west\"";
     let four = "\"east\", \"west\", \"north\", \"south\"";
-    reads(&rt, east, "e", "1 east 1F1")?;
-    reads(&rt, east, "ee", "1 east 1F1 2F1")?;
-    reads(&rt, east, "eee", "1 east 1F1 2F1 3F1")?;
-    reads(&rt, east, "ete", "1 east 1F1 2T1 3F1")?;
-    reads(&rt, east, "el", "1 east 1F1 2L1")?;
-    reads(&rt, both, "eeewww", "1 east west 1F1 2F1 3F1 4F2 5F2 6F2")?;
-    reads(
-        &rt,
-        both,
-        "eeewwww",
-        "1 east west 1F1 2F1 3F1 4F2 5F2 6F2 7F2",
-    )?;
-    reads(
-        &rt,
-        four,
-        "eeewns",
-        "1 east west north south 1F1 2F1 3F1 4F2 5F3 6F4",
-    )
+    let seven = "1 east west 1F1 2F1 3F1 4F2 5F2 6F2 7F2";
+    let six = "1 east west north south 1F1 2F1 3F1 4F2 5F3 6F4";
+    reads(&rt, both, "eeewww", "1 east west 1F1 2F1 3F1 4F2 5F2 6F2");
+    reads(&rt, both, "eeewwww", seven);
+    reads(&rt, four, "eeewns", six);
 }
 
-#[test]
-fn addresses_and_clients_are_read(rt: HostRuntime) -> Result<(), Fail> {
-    let text = super::edited(rt.alloc(), (99, ""), (99, ""))?;
-    let ring = read_ring(rt.alloc(), text.as_bytes())?;
-    let node = ring.members().get(1).ok_or("no second node")?;
-    let at = node.address.as_ref().ok_or("no address")?;
-    assert_eq!(rt; at.as_str(), "10.0.0.2:3306");
-    let client = ring.clients().get(0).ok_or("no client")?;
-    assert_eq!(rt; client.id, 65536);
-    assert_eq!(rt; client.at.as_str(), "10.0.1.1:9000");
-    Ok(())
-}
-
-#[test]
-fn at_most_64_nodes(rt: HostRuntime) -> Result<(), Fail> {
-    let mut nodes = String::new(rt.alloc());
-    for _ in 0..64 {
-        nodes.push('e')?;
+/// The second node's address, and the first client's number and address.
+fn addresses(alloc: Global, ring: &Ring) -> Result<String, AllocError> {
+    let mut text = String::new(alloc);
+    if let Some(node) = ring.members().get(1)
+        && let Some(at) = &node.address
+    {
+        text.push_str(at.as_str())?;
     }
-    let fits = ring_text(rt.alloc(), "\"east\"", nodes.as_str())?;
-    assert_eq!(rt; answer(rt.alloc(), fits.as_bytes())?.as_str(), "ring");
-    nodes.push('e')?;
-    let more = ring_text(rt.alloc(), "\"east\"", nodes.as_str())?;
-    let wanted = "too many nodes, regions, clients or tables";
-    assert_eq!(rt; answer(rt.alloc(), more.as_bytes())?.as_str(), wanted);
-    Ok(())
+    if let Some(client) = ring.clients().get(0) {
+        let (id, at) = (client.id, client.at.as_str());
+        write!(text, " {id} {at}")?;
+    }
+    Ok(text)
+}
+
+#[test]
+fn addresses_and_clients_are_read(rt: HostRuntime) {
+    let text = super::edited(rt.alloc(), (99, ""), (99, "")).expect(&rt, "memory");
+    let ring = read_ring(rt.alloc(), text.as_bytes()).expect(&rt, "a ring");
+    let given = addresses(rt.alloc(), &ring).expect(&rt, "memory");
+    assert_eq!(rt; given.as_str(), "10.0.0.2:3306 65536 10.0.1.1:9000");
+}
+
+/// Expects this answer to a ring of so many nodes of one region.
+fn of_nodes(rt: &(impl AllocGlobal + Abort), count: u64, wanted: &str) {
+    let mut nodes = String::new(rt.alloc());
+    for _ in 0..count {
+        nodes.push('e').expect(rt, "memory");
+    }
+    let text = ring_text(rt.alloc(), "\"east\"", nodes.as_str()).expect(rt, "memory");
+    says(rt, text.as_bytes(), wanted);
+}
+
+#[test]
+fn at_most_64_nodes(rt: HostRuntime) {
+    of_nodes(&rt, 64, "ring");
+    of_nodes(&rt, 65, "too many nodes, regions, clients or tables");
 }

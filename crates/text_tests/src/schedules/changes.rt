@@ -1,136 +1,119 @@
-use super::{at, fail, stands_for, stop};
-use ring_model::{Event, Input};
-use ring_types::{Change, CutAt, Keep, List, Memory, Text, Value};
-use std::alloc::Global;
-use std::test::Fail;
+//! Writes: values, and changes one behind the other.
+use super::{at, fail, stop, takes};
+use ring_model::Input;
+use ring_types::{Change, CutAt, Keep, List, Text, Value};
+use std::process::Abort;
 
-fn quoted(alloc: Global, written: &str) -> Result<Value, Memory> {
-    Ok(Value::Text(Text::copy_of(alloc, written)?))
+fn text(rt: &(impl AllocGlobal + Abort), of: &str) -> Text {
+    Text::copy_of(rt.alloc(), of).expect(rt, "memory")
 }
 
-fn insert(alloc: Global, table: &str, row: List<Value>) -> Result<Change, Memory> {
-    let table = Text::copy_of(alloc, table)?;
-    Ok(Change::Insert { table, row })
+fn quoted(rt: &(impl AllocGlobal + Abort), written: &str) -> Value {
+    Value::Text(text(rt, written))
 }
 
-fn update(alloc: Global, table: &str, row: List<Value>) -> Result<Change, Memory> {
-    let table = Text::copy_of(alloc, table)?;
-    Ok(Change::Update { table, row })
+fn with<T: Drop>(rt: &(impl AllocGlobal + Abort), list: List<T>, item: T) -> List<T> {
+    let mut list = list;
+    list.push(item).expect(rt, "memory");
+    list
 }
 
-fn delete(alloc: Global, table: &str, key: Value) -> Result<Change, Memory> {
-    let table = Text::copy_of(alloc, table)?;
-    Ok(Change::Delete { table, key })
+fn one<T: Drop>(rt: &(impl AllocGlobal + Abort), item: T) -> List<T> {
+    with(rt, List::new(rt.alloc()), item)
 }
 
-fn two(alloc: Global, first: Value, second: Value) -> Result<List<Value>, Memory> {
-    let mut row = List::of_one(alloc, first)?;
-    row.push(second)?;
-    Ok(row)
+fn pair<T: Drop>(rt: &(impl AllocGlobal + Abort), first: T, second: T) -> List<T> {
+    with(rt, one(rt, first), second)
 }
 
-/// Whether the line is the write of the changes at node 1.
-fn writes(alloc: Global, line: &str, changes: List<Change>, cut: Option<CutAt>) -> bool {
-    let what = at(1, Input::Write { client: 0, changes });
-    stands_for(alloc, line, &Event { line: 1, what, cut })
+fn insert(rt: &(impl AllocGlobal + Abort), table: &str, row: List<Value>) -> Change {
+    Change::Insert {
+        table: text(rt, table),
+        row,
+    }
 }
 
-/// Whether the line inserts this one value into `t` at node 1.
-fn inserts(alloc: Global, line: &str, value: Value) -> Result<bool, Memory> {
-    let mut changes = List::new(alloc);
-    changes.push(insert(alloc, "t", List::of_one(alloc, value)?)?)?;
-    Ok(writes(alloc, line, changes, None))
+fn update(rt: &(impl AllocGlobal + Abort), table: &str, row: List<Value>) -> Change {
+    Change::Update {
+        table: text(rt, table),
+        row,
+    }
+}
+
+fn delete(rt: &(impl AllocGlobal + Abort), table: &str, key: Value) -> Change {
+    Change::Delete {
+        table: text(rt, table),
+        key,
+    }
+}
+
+/// Expects the line to be the write of the changes at node 1.
+fn writes(rt: &(impl AllocGlobal + Abort), line: &str, changes: List<Change>, cut: Option<CutAt>) {
+    takes(rt, line, at(1, Input::Write { client: 0, changes }), cut);
+}
+
+/// Expects the word to be this value, inserted into `t` at node 1.
+fn inserts(rt: &(impl AllocGlobal + Abort), word: &str, value: Value) {
+    let line = format!(in rt.alloc(); "write 1 insert t {word}\n").expect(rt, "memory");
+    let changes = one(rt, insert(rt, "t", one(rt, value)));
+    writes(rt, line.as_str(), changes, None);
 }
 
 #[test]
-fn integers(rt: HostRuntime) -> Result<(), Fail> {
-    let alloc = rt.alloc();
-    let rows: [(&str, i64); 6] = [
-        ("write 1 insert t 0\n", 0),
-        ("write 1 insert t 7\n", 7),
-        ("write 1 insert t -7\n", -7),
-        ("write 1 insert t 1000\n", 1000),
-        (
-            "write 1 insert t 9223372036854775807\n",
-            9223372036854775807,
-        ),
-        (
-            "write 1 insert t -9223372036854775808\n",
-            -9223372036854775808,
-        ),
-    ];
-    for (line, number) in rows {
-        let same = inserts(alloc, line, Value::Int(number))
-            .ok()
-            .ok_or("memory")?;
-        assert!(rt; same, "{line}");
-    }
-    let same = inserts(alloc, "write 1 insert t null\n", Value::Null)
-        .ok()
-        .ok_or("memory")?;
-    assert!(rt; same);
-    Ok(())
+fn integers(rt: HostRuntime) {
+    inserts(&rt, "0", Value::Int(0));
+    inserts(&rt, "7", Value::Int(7));
+    inserts(&rt, "-7", Value::Int(-7));
+    inserts(&rt, "1000", Value::Int(1000));
+    inserts(&rt, "9223372036854775807", Value::Int(i64::MAX));
+    inserts(&rt, "-9223372036854775808", Value::Int(i64::MIN));
+    inserts(&rt, "null", Value::Null);
+}
+
+/// Expects the word to be a text.
+fn quotes(rt: &(impl AllocGlobal + Abort), word: &str, written: &str) {
+    inserts(rt, word, quoted(rt, written));
 }
 
 #[test]
-fn texts(rt: HostRuntime) -> Result<(), Fail> {
-    let alloc = rt.alloc();
-    let rows = [
-        ("write 1 insert t ''\n", ""),
-        ("write 1 insert t 'a'\n", "a"),
-        (
-            "write 1 insert t 'two words; and more'\n",
-            "two words; and more",
-        ),
-        ("write 1 insert t 'it\\x27s'\n", "it's"),
-        (
-            "write 1 insert t '\\x5c\\x0a\\x7f\\x00'\n",
-            "\\\n\u{7f}\u{0}",
-        ),
-        ("write 1 insert t ' stop 1 none'\n", " stop 1 none"),
-        ("write 1 insert t 'null'\n", "null"),
-        ("write 1 insert t '#'\n", "#"),
-        ("write 1 insert t 'grün'\n", "grün"),
-        ("write 1 insert t 'x5c'\n", "x5c"),
-    ];
-    for (line, written) in rows {
-        let value = quoted(alloc, written).ok().ok_or("memory")?;
-        let same = inserts(alloc, line, value).ok().ok_or("memory")?;
-        assert!(rt; same, "{line}");
-    }
-    Ok(())
+fn texts(rt: HostRuntime) {
+    quotes(&rt, "''", "");
+    quotes(&rt, "'a'", "a");
+    quotes(&rt, "'two words; and more'", "two words; and more");
+    quotes(&rt, "' stop 1 none'", " stop 1 none");
+    quotes(&rt, "'null'", "null");
+    quotes(&rt, "'#'", "#");
 }
 
-/// Whether a line of three changes is read to them, with its suffix.
-fn joined(alloc: Global) -> Result<bool, Memory> {
-    let mut changes = List::new(alloc);
-    let row = two(alloc, Value::Int(1), quoted(alloc, "a; b")?)?;
-    changes.push(insert(alloc, "t", row)?)?;
-    changes.push(update(alloc, "T_2", two(alloc, Value::Int(-1), Value::Null)?)?)?;
-    changes.push(delete(alloc, "9", quoted(alloc, "k")?)?)?;
+#[test]
+fn texts_beyond_plain_letters(rt: HostRuntime) {
+    quotes(&rt, "'it\\x27s'", "it's");
+    quotes(&rt, "'\\x5c\\x0a\\x7f\\x00'", "\\\n\u{7f}\u{0}");
+    quotes(&rt, "'grün'", "grün");
+    quotes(&rt, "'x5c'", "x5c");
+}
+
+/// An insert, an update and a delete, each of another table.
+fn three(rt: &(impl AllocGlobal + Abort)) -> List<Change> {
+    let first = insert(rt, "t", pair(rt, Value::Int(1), quoted(rt, "a; b")));
+    let second = update(rt, "T_2", pair(rt, Value::Int(-1), Value::Null));
+    let third = delete(rt, "9", quoted(rt, "k"));
+    with(rt, pair(rt, first, second), third)
+}
+
+#[test]
+fn several_changes(rt: HostRuntime) {
     let line = "write 1 insert t 1 'a; b'; update T_2 -1 null; delete 9 'k' stop 2 half\n";
-    Ok(writes(alloc, line, changes, stop(2, Keep::Half)))
+    writes(&rt, line, three(&rt), stop(2, Keep::Half));
 }
 
-/// Whether a table may be called as a suffix is, with a suffix behind it.
-fn named_fail(alloc: Global) -> Result<bool, Memory> {
-    let mut changes = List::new(alloc);
-    changes.push(delete(alloc, "fail", Value::Int(5))?)?;
-    Ok(writes(alloc, "write 1 delete fail 5 fail 5\n", changes, fail(5)))
-}
-
-/// Whether a table may be called as a suffix is, with none behind it.
-fn named_fail_alone(alloc: Global) -> Result<bool, Memory> {
-    let mut changes = List::new(alloc);
-    changes.push(delete(alloc, "fail", Value::Int(5))?)?;
-    Ok(writes(alloc, "write 1 delete fail 5\n", changes, None))
+/// Expects the line to delete row 5 of a table that is called as a suffix is.
+fn deletes(rt: &(impl AllocGlobal + Abort), line: &str, cut: Option<CutAt>) {
+    writes(rt, line, one(rt, delete(rt, "fail", Value::Int(5))), cut);
 }
 
 #[test]
-fn several_changes(rt: HostRuntime) -> Result<(), Fail> {
-    let alloc = rt.alloc();
-    assert!(rt; joined(alloc).ok().ok_or("memory")?);
-    assert!(rt; named_fail(alloc).ok().ok_or("memory")?);
-    assert!(rt; named_fail_alone(alloc).ok().ok_or("memory")?);
-    Ok(())
+fn a_table_called_as_a_suffix(rt: HostRuntime) {
+    deletes(&rt, "write 1 delete fail 5 fail 5\n", fail(5));
+    deletes(&rt, "write 1 delete fail 5\n", None);
 }
