@@ -1,7 +1,28 @@
-//! Lists of the calls that are to fail.
-use ring_types::List;
-use std::alloc::{AllocError, Global};
+//! Lists and texts. Want of memory ends the test.
+use ring_types::{List, Text};
+use std::process::Abort;
 
-pub fn numbers(alloc: Global, of: &[u64]) -> Result<List<u64>, AllocError> {
-    Ok(List::from_vec(of.to_vec(alloc)?))
+pub fn text(rt: &(impl AllocGlobal + Abort), of: &str) -> Text {
+    Text::copy_of(rt.alloc(), of).expect(rt, "memory")
+}
+
+pub fn one<T: Drop>(rt: &(impl AllocGlobal + Abort), item: T) -> List<T> {
+    List::of_one(rt.alloc(), item).expect(rt, "memory")
+}
+
+pub fn with<T: Drop>(rt: &(impl AllocGlobal + Abort), front: List<T>, item: T) -> List<T> {
+    let mut list = front;
+    list.push(item).expect(rt, "memory");
+    list
+}
+
+pub fn pair<T: Drop>(rt: &(impl AllocGlobal + Abort), first: T, second: T) -> List<T> {
+    with(rt, one(rt, first), second)
+}
+
+/// Numbers of calls.
+pub fn numbers(rt: &(impl AllocGlobal + Abort), of: &[u64]) -> List<u64> {
+    let mut list = List::new(rt.alloc());
+    list.extend_from_slice(of).expect(rt, "memory");
+    list
 }

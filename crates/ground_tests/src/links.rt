@@ -3,11 +3,10 @@ ghost use Rattle.std.specs.Prelude.{◌≡◌, ◌≢◌, ◌≤◌, ◌++◌, �
 ghost use Rattle.edge_traits.specs.Links.{Traffic, LinkFails};
 ghost use Rattle.edge_traits.specs.declared.links.Got.TheVariants as got;
 
-use super::fixtures::numbers;
+use super::fixtures::{numbers, pair, with};
 use edge_traits::{Got, Link, LinkFault, MemoryLink, Sent, SteadyLink};
 use ring_types::List;
-use std::alloc::{AllocError, Global};
-use std::test::Fail;
+use std::process::Abort;
 
 /// Sends a message back to its sender, and answers whether one came.
 fn echo<L: Link>(link: &mut L) -> Result<bool, LinkFault>
@@ -31,20 +30,18 @@ fn echo_steadily(link: &mut SteadyLink) -> Result<bool, LinkFault>
     echo(link)
 }
 
-fn message(alloc: Global, from: u32, text: &str) -> Result<Got, AllocError> {
-    Ok(Got::Message {
-        from,
-        bytes: List::from_vec(text.as_bytes().to_vec(alloc)?),
-    })
+fn message(rt: &(impl AllocGlobal + Abort), from: u32, text: &str) -> Got {
+    let mut bytes = List::new(rt.alloc());
+    bytes
+        .extend_from_slice(text.as_bytes())
+        .expect(rt, "memory");
+    Got::Message { from, bytes }
 }
 
 /// Two messages, and between them nothing.
-fn gots(alloc: Global) -> Result<List<Got>, AllocError> {
-    let mut gots = List::new(alloc);
-    gots.push(message(alloc, 5, "a")?)?;
-    gots.push(Got::Quiet)?;
-    gots.push(message(alloc, 6, "bc")?)?;
-    Ok(gots)
+fn gots(rt: &(impl AllocGlobal + Abort)) -> List<Got> {
+    let two = pair(rt, message(rt, 5, "a"), Got::Quiet);
+    with(rt, two, message(rt, 6, "bc"))
 }
 
 /// Whether both messages went back to their senders.
@@ -61,31 +58,26 @@ fn are_echoed(sent: &List<Sent>) -> bool {
 }
 
 #[test]
-fn a_failing_receive_keeps_the_message_for_the_next(rt: HostRuntime) -> Result<(), Fail> {
-    let failing = numbers(rt.alloc(), &[1, 3])?;
-    let mut link = MemoryLink::new(rt.alloc(), gots(rt.alloc())?, failing);
+fn a_failing_receive_keeps_the_message_for_the_next(rt: HostRuntime) {
+    let mut link = MemoryLink::new(rt.alloc(), gots(&rt), numbers(&rt, &[1, 3]));
     let peers = List::new(rt.alloc());
     assert!(rt; link.join(1, &peers) == Err(LinkFault::Failed));
     assert!(rt; link.join(1, &peers) == Ok(()));
-    for want in [
-        Err(LinkFault::Failed),
-        Ok(true),
-        Ok(false),
-        Ok(true),
-        Ok(false),
-    ] {
-        assert!(rt; echo(&mut link) == want);
-    }
+    assert!(rt; echo(&mut link) == Err(LinkFault::Failed));
+    assert!(rt; echo(&mut link) == Ok(true));
+    assert!(rt; echo(&mut link) == Ok(false));
+    assert!(rt; echo(&mut link) == Ok(true));
+    assert!(rt; echo(&mut link) == Ok(false));
     assert!(rt; are_echoed(link.sent()));
-    Ok(())
 }
 
 #[test]
-fn a_steady_link_gives_its_list_and_then_nothing(rt: HostRuntime) -> Result<(), Fail> {
-    let mut link = SteadyLink::new(rt.alloc(), gots(rt.alloc())?);
-    for want in [true, false, true, false, false] {
-        assert!(rt; echo_steadily(&mut link) == Ok(want));
-    }
+fn a_steady_link_gives_its_list_and_then_nothing(rt: HostRuntime) {
+    let mut link = SteadyLink::new(rt.alloc(), gots(&rt));
+    assert!(rt; echo_steadily(&mut link) == Ok(true));
+    assert!(rt; echo_steadily(&mut link) == Ok(false));
+    assert!(rt; echo_steadily(&mut link) == Ok(true));
+    assert!(rt; echo_steadily(&mut link) == Ok(false));
+    assert!(rt; echo_steadily(&mut link) == Ok(false));
     assert!(rt; are_echoed(link.sent()));
-    Ok(())
 }

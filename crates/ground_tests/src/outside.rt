@@ -5,13 +5,13 @@ ghost use Rattle.edge_traits.specs.Fetches.{FetchIs, FetchFails};
 ghost use Rattle.edge_traits.specs.Files.{held};
 ghost use Rattle.edge_traits.specs.Puts.{PutIs, PutFails};
 
-use super::fixtures::numbers;
+use super::fixtures::{numbers, pair, text, with};
 use edge_traits::{
     FetchError, MemoryShelf, MemorySink, Shelf, ShelfFile, Sink, SinkFault, SteadyShelf, SteadySink,
 };
 use ring_types::{List, Text};
-use std::alloc::{AllocError, Global};
-use std::test::Fail;
+use std::alloc::Global;
+use std::process::Abort;
 
 // Callers that know no more than the traits.
 
@@ -87,20 +87,21 @@ fn fetch_from_new(
     fetch_again(&mut shelf, name, limit)
 }
 
-fn file(alloc: Global, name: &str, content: &str) -> Result<ShelfFile, AllocError> {
-    Ok(ShelfFile {
-        name: Text::copy_of(alloc, name)?,
-        bytes: List::from_vec(content.as_bytes().to_vec(alloc)?),
-    })
+fn file(rt: &(impl AllocGlobal + Abort), name: &str, content: &str) -> ShelfFile {
+    let mut bytes = List::new(rt.alloc());
+    bytes
+        .extend_from_slice(content.as_bytes())
+        .expect(rt, "memory");
+    ShelfFile {
+        name: text(rt, name),
+        bytes,
+    }
 }
 
 /// Three files, two of them with one name.
-fn files(alloc: Global) -> Result<List<ShelfFile>, AllocError> {
-    let mut files = List::new(alloc);
-    files.push(file(alloc, "a", "one")?)?;
-    files.push(file(alloc, "b", "12345")?)?;
-    files.push(file(alloc, "a", "two")?)?;
-    Ok(files)
+fn files(rt: &(impl AllocGlobal + Abort)) -> List<ShelfFile> {
+    let two = pair(rt, file(rt, "a", "one"), file(rt, "b", "12345"));
+    with(rt, two, file(rt, "a", "two"))
 }
 
 /// The bytes of a file, or a word for why there are none.
@@ -114,79 +115,65 @@ fn shown(answer: &Result<List<u8>, FetchError>) -> &[u8] {
     }
 }
 
-/// Whether a shelf gives these bytes, or this word for why it gives none.
-fn is_fetched<H: Shelf>(
-    alloc: Global,
+/// Expects a shelf to give these bytes, or this word for why it gives none.
+fn gives<H: Shelf>(
+    rt: &(impl AllocGlobal + Abort),
     shelf: &mut H,
     name: &str,
     limit: u64,
     want: &str,
-) -> Result<bool, AllocError> {
-    let name = Text::copy_of(alloc, name)?;
-    Ok(shown(&shelf.fetch(&name, limit)) == want.as_bytes())
+) {
+    let answer = shelf.fetch(&text(rt, name), limit);
+    assert!(rt; shown(&answer) == want.as_bytes(), "{name}");
+}
+
+#[test]
+fn a_shelf_gives_whole_files_or_says_why_not(rt: HostRuntime) {
+    let mut shelf = MemoryShelf::new(rt.alloc(), files(&rt), numbers(&rt, &[2, 6]));
+    gives(&rt, &mut shelf, "a", 3, "one");
+    gives(&rt, &mut shelf, "a", 3, "failed");
+    gives(&rt, &mut shelf, "b", 4, "too large");
+    gives(&rt, &mut shelf, "b", 5, "12345");
+    gives(&rt, &mut shelf, "c", 9, "absent");
+    gives(&rt, &mut shelf, "c", 0, "failed");
+}
+
+/// Puts bytes, and expects the sink to have taken these so far; tells whether the call failed.
+fn fails_to_take(rt: &impl Abort, sink: &mut MemorySink, bytes: &str, took: &str) -> bool {
+    let fails = sink.put(bytes.as_bytes()) == Err(SinkFault::Failed);
+    assert!(rt; sink.taken().as_slice() == took.as_bytes());
+    fails
+}
+
+#[test]
+fn a_sink_takes_all_bytes_or_none(rt: HostRuntime) {
+    let mut sink = MemorySink::new(rt.alloc(), numbers(&rt, &[1, 3]));
+    assert!(rt; fails_to_take(&rt, &mut sink, "ab", ""));
+    assert!(rt; !fails_to_take(&rt, &mut sink, "cd", "cd"));
+    assert!(rt; fails_to_take(&rt, &mut sink, "e", "cd"));
+    assert!(rt; !fails_to_take(&rt, &mut sink, "fg", "cdfg"));
 }
 
 /// How a copy of the file `b` ends, of which the calls of these numbers fail.
-fn copy_failing(alloc: Global, fetches: &[u64], puts: &[u64]) -> Result<Copied, AllocError> {
-    let mut shelf = MemoryShelf::new(alloc, files(alloc)?, numbers(alloc, fetches)?);
-    let mut sink = MemorySink::new(alloc, numbers(alloc, puts)?);
-    let name = Text::copy_of(alloc, "b")?;
-    Ok(copy_file(&mut shelf, &mut sink, &name, 5))
+fn copy_failing(rt: &(impl AllocGlobal + Abort), fetches: &[u64], puts: &[u64]) -> Copied {
+    let mut shelf = MemoryShelf::new(rt.alloc(), files(rt), numbers(rt, fetches));
+    let mut sink = MemorySink::new(rt.alloc(), numbers(rt, puts));
+    copy_file(&mut shelf, &mut sink, &text(rt, "b"), 5)
 }
 
 #[test]
-fn a_shelf_gives_whole_files_or_says_why_not(rt: HostRuntime) -> Result<(), Fail> {
-    let mut shelf = MemoryShelf::new(
-        rt.alloc(),
-        files(rt.alloc())?,
-        numbers(rt.alloc(), &[2, 6])?,
-    );
-    for (name, limit, want) in [
-        ("a", 3, "one"),
-        ("a", 3, "failed"),
-        ("b", 4, "too large"),
-        ("b", 5, "12345"),
-        ("c", 9, "absent"),
-        ("c", 0, "failed"),
-    ] {
-        assert!(rt;
-            is_fetched(rt.alloc(), &mut shelf, name, limit, want)?,
-            "{name}"
-        );
-    }
-    Ok(())
+fn a_caller_tells_whose_failure_it_was(rt: HostRuntime) {
+    assert!(rt; copy_failing(&rt, &[1], &[]) == Copied::Whole);
+    assert!(rt; copy_failing(&rt, &[1, 2], &[]) == Copied::ShelfFailed);
+    assert!(rt; copy_failing(&rt, &[], &[2]) == Copied::SinkFailed);
 }
 
 #[test]
-fn a_sink_takes_all_bytes_or_none(rt: HostRuntime) -> Result<(), Fail> {
-    let mut sink = MemorySink::new(rt.alloc(), numbers(rt.alloc(), &[1, 3])?);
-    for (bytes, fails, took) in [
-        ("ab", true, ""),
-        ("cd", false, "cd"),
-        ("e", true, "cd"),
-        ("fg", false, "cdfg"),
-    ] {
-        assert!(rt; (sink.put(bytes.as_bytes()) == Err(SinkFault::Failed)) == fails);
-        assert!(rt; sink.taken().as_slice() == took.as_bytes());
-    }
-    Ok(())
-}
-
-#[test]
-fn a_caller_tells_whose_failure_it_was(rt: HostRuntime) -> Result<(), Fail> {
-    assert!(rt; copy_failing(rt.alloc(), &[1], &[])? == Copied::Whole);
-    assert!(rt; copy_failing(rt.alloc(), &[1, 2], &[])? == Copied::ShelfFailed);
-    assert!(rt; copy_failing(rt.alloc(), &[], &[2])? == Copied::SinkFailed);
-    Ok(())
-}
-
-#[test]
-fn steady_forms_never_fail(rt: HostRuntime) -> Result<(), Fail> {
-    let mut shelf = SteadyShelf::new(rt.alloc(), files(rt.alloc())?);
+fn steady_forms_never_fail(rt: HostRuntime) {
+    let mut shelf = SteadyShelf::new(rt.alloc(), files(&rt));
     let mut sink = SteadySink::new(rt.alloc());
-    let name = Text::copy_of(rt.alloc(), "b")?;
+    let name = text(&rt, "b");
     assert!(rt; copy_steadily(&mut shelf, &mut sink, &name, 4) == Copied::Refused);
     assert!(rt; copy_steadily(&mut shelf, &mut sink, &name, 5) == Copied::Whole);
     assert!(rt; sink.taken().as_slice() == b">12345".as_slice());
-    Ok(())
 }

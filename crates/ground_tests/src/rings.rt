@@ -1,12 +1,11 @@
 //! What a ring is refused for, in which order, and what an accepted ring answers.
+use super::fixtures::{one, text};
 use ring_types::{
-    Address, BuildError, Change, Column, Duplicate, Entry, Gtid, Kind, List, MemberPart, Memory,
-    NodeId, Opid, Payload, RegionId, Ring, RingParts, Schema, Shape, Table, Text, Txn, Value,
-    at_least, last, region_at, rotates, term_at,
+    Address, BuildError, Change, Column, Duplicate, Entry, Gtid, Kind, List, MemberPart, NodeId,
+    Opid, Payload, RegionId, Ring, RingParts, Schema, Shape, Table, Text, Txn, Value, at_least,
+    last, region_at, rotates, term_at,
 };
-use std::alloc::Global;
 use std::process::Abort;
-use std::test::Fail;
 
 /// A way to spoil a declared ring.
 #[derive(Clone, Copy, Debug, PartialEq, Eq)]
@@ -26,28 +25,28 @@ enum Fault {
     ColumnTwice,
 }
 
-fn texts(alloc: Global, names: &[&str]) -> Result<List<Text>, Memory> {
-    let mut made = List::new(alloc);
+fn texts(rt: &(impl AllocGlobal + Abort), names: &[&str]) -> List<Text> {
+    let mut made = List::new(rt.alloc());
     for name in names {
-        made.push(Text::copy_of(alloc, name)?)?;
+        made.push(text(rt, name)).expect(rt, "memory");
     }
-    Ok(made)
+    made
 }
 
 fn node(
-    alloc: Global,
+    rt: &(impl AllocGlobal + Abort),
     id: u32,
     region: &str,
     kind: Kind,
     server: u128,
-) -> Result<MemberPart, Memory> {
-    Ok(MemberPart {
+) -> MemberPart {
+    MemberPart {
         id,
-        region: Text::copy_of(alloc, region)?,
+        region: text(rt, region),
         kind,
         server,
         address: None,
-    })
+    }
 }
 
 const NODES: [(u32, &str, Kind); 4] = [
@@ -57,133 +56,132 @@ const NODES: [(u32, &str, Kind); 4] = [
     (4, "west", Kind::Full),
 ];
 
-fn nodes(alloc: Global) -> Result<List<MemberPart>, Memory> {
-    let mut made = List::new(alloc);
+fn nodes(rt: &(impl AllocGlobal + Abort)) -> List<MemberPart> {
+    let mut made = List::new(rt.alloc());
     for (id, region, kind) in &NODES {
-        made.push(node(alloc, *id, region, *kind, 1000 + u128::from(*id))?)?;
+        made.push(node(rt, *id, region, *kind, 1000 + u128::from(*id)))
+            .expect(rt, "memory");
     }
-    Ok(made)
+    made
 }
 
-fn client(alloc: Global, id: u32) -> Result<Address, Memory> {
-    Ok(Address {
+fn client(rt: &(impl AllocGlobal + Abort), id: u32) -> Address {
+    Address {
         id,
-        at: Text::copy_of(alloc, "127.0.0.1:9000")?,
-    })
-}
-
-fn column(alloc: Global, name: &str) -> Result<Column, Memory> {
-    Ok(Column {
-        name: Text::copy_of(alloc, name)?,
-        shape: Shape::Text { limit: 20 },
-    })
-}
-
-fn columns(alloc: Global, names: &[&str]) -> Result<List<Column>, Memory> {
-    let mut made = List::new(alloc);
-    for name in names {
-        made.push(column(alloc, name)?)?;
+        at: text(rt, "127.0.0.1:9000"),
     }
-    Ok(made)
 }
 
-fn table(alloc: Global, name: &str, names: &[&str]) -> Result<Table, Memory> {
-    Ok(Table {
-        name: Text::copy_of(alloc, name)?,
-        columns: columns(alloc, names)?,
-    })
+fn column(rt: &(impl AllocGlobal + Abort), name: &str) -> Column {
+    Column {
+        name: text(rt, name),
+        shape: Shape::Text { limit: 20 },
+    }
 }
 
-fn schema(alloc: Global) -> Result<Schema, Memory> {
-    let notes = table(alloc, "notes", ["id", "note"].as_slice())?;
-    Ok(Schema {
-        database: Text::copy_of(alloc, "shop")?,
-        tables: List::of_one(alloc, notes)?,
-    })
+fn columns(rt: &(impl AllocGlobal + Abort), names: &[&str]) -> List<Column> {
+    let mut made = List::new(rt.alloc());
+    for name in names {
+        made.push(column(rt, name)).expect(rt, "memory");
+    }
+    made
+}
+
+fn table(rt: &(impl AllocGlobal + Abort), name: &str, names: &[&str]) -> Table {
+    Table {
+        name: text(rt, name),
+        columns: columns(rt, names),
+    }
+}
+
+fn schema(rt: &(impl AllocGlobal + Abort)) -> Schema {
+    let notes = table(rt, "notes", ["id", "note"].as_slice());
+    Schema {
+        database: text(rt, "shop"),
+        tables: one(rt, notes),
+    }
 }
 
 /// Two regions; the first member of the second is a learner.
-fn good(alloc: Global) -> Result<RingParts, Memory> {
-    let clients = List::of_one(alloc, client(alloc, 65536)?)?;
-    Ok(RingParts {
-        home: Text::copy_of(alloc, "west")?,
-        regions: texts(alloc, ["east", "west"].as_slice())?,
-        members: nodes(alloc)?,
+fn good(rt: &(impl AllocGlobal + Abort)) -> RingParts {
+    let clients = one(rt, client(rt, 65536));
+    RingParts {
+        home: text(rt, "west"),
+        regions: texts(rt, ["east", "west"].as_slice()),
+        members: nodes(rt),
         clients,
-        schema: schema(alloc)?,
-    })
+        schema: schema(rt),
+    }
 }
 
 fn add_node(
-    alloc: Global,
+    rt: &(impl AllocGlobal + Abort),
     parts: &mut RingParts,
     id: u32,
     region: &str,
     server: u128,
-) -> Result<(), Memory> {
+) {
     parts
         .members
-        .push(node(alloc, id, region, Kind::Full, server)?)
+        .push(node(rt, id, region, Kind::Full, server))
+        .expect(rt, "memory");
 }
 
-fn add_client(alloc: Global, parts: &mut RingParts, id: u32) -> Result<(), Memory> {
-    parts.clients.push(client(alloc, id)?)
+fn add_client(rt: &(impl AllocGlobal + Abort), parts: &mut RingParts, id: u32) {
+    parts.clients.push(client(rt, id)).expect(rt, "memory");
 }
 
-fn add_clients(alloc: Global, parts: &mut RingParts) -> Result<(), Memory> {
+fn add_clients(rt: &(impl AllocGlobal + Abort), parts: &mut RingParts) {
     for extra in 0..64 {
-        add_client(alloc, parts, 70000 + extra)?;
+        add_client(rt, parts, 70000 + extra);
     }
-    Ok(())
 }
 
-fn add_region(alloc: Global, parts: &mut RingParts, name: &str) -> Result<(), Memory> {
-    parts.regions.push(Text::copy_of(alloc, name)?)
+fn add_region(rt: &(impl AllocGlobal + Abort), parts: &mut RingParts, name: &str) {
+    parts.regions.push(text(rt, name)).expect(rt, "memory");
 }
 
-fn add_regions(alloc: Global, parts: &mut RingParts) -> Result<(), Memory> {
+fn add_regions(rt: &(impl AllocGlobal + Abort), parts: &mut RingParts) {
     for _ in 0..16 {
-        add_region(alloc, parts, "more")?;
+        add_region(rt, parts, "more");
     }
-    Ok(())
 }
 
-fn add_school(alloc: Global, parts: &mut RingParts) -> Result<(), Memory> {
-    add_region(alloc, parts, "school")?;
+fn add_school(rt: &(impl AllocGlobal + Abort), parts: &mut RingParts) {
+    add_region(rt, parts, "school");
     parts
         .members
-        .push(node(alloc, 12, "school", Kind::Learner, 1012)?)
+        .push(node(rt, 12, "school", Kind::Learner, 1012))
+        .expect(rt, "memory");
 }
 
-fn add_table(
-    alloc: Global,
-    parts: &mut RingParts,
-    name: &str,
-    names: &[&str],
-) -> Result<(), Memory> {
-    parts.schema.tables.push(table(alloc, name, names)?)
+fn add_table(rt: &(impl AllocGlobal + Abort), parts: &mut RingParts, name: &str, names: &[&str]) {
+    parts
+        .schema
+        .tables
+        .push(table(rt, name, names))
+        .expect(rt, "memory");
 }
 
-fn move_home(alloc: Global, parts: &mut RingParts) -> Result<(), Memory> {
-    parts.home = Text::copy_of(alloc, "north")?;
-    Ok(())
+fn move_home(rt: &(impl AllocGlobal + Abort), parts: &mut RingParts) {
+    parts.home = text(rt, "north");
 }
 
-fn spoil(alloc: Global, parts: &mut RingParts, fault: Fault) -> Result<(), Memory> {
+fn spoil(rt: &(impl AllocGlobal + Abort), parts: &mut RingParts, fault: Fault) {
     match fault {
-        Fault::ManyClients => add_clients(alloc, parts),
-        Fault::ManyRegions => add_regions(alloc, parts),
-        Fault::NodeTwice => add_node(alloc, parts, 7, "east", 5),
-        Fault::ClientTwice => add_client(alloc, parts, 65536),
-        Fault::RegionTwice => add_region(alloc, parts, "east"),
-        Fault::ServerTwice => add_node(alloc, parts, 8, "east", 1007),
-        Fault::Homeless => move_home(alloc, parts),
-        Fault::Stray => add_node(alloc, parts, 11, "south", 1011),
-        Fault::EmptyRegion => add_region(alloc, parts, "empty"),
-        Fault::LearnersAlone => add_school(alloc, parts),
-        Fault::TableTwice => add_table(alloc, parts, "notes", ["id"].as_slice()),
-        Fault::NoColumn => add_table(alloc, parts, "bare", [].as_slice()),
-        Fault::ColumnTwice => add_table(alloc, parts, "twins", ["id", "id"].as_slice()),
+        Fault::ManyClients => add_clients(rt, parts),
+        Fault::ManyRegions => add_regions(rt, parts),
+        Fault::NodeTwice => add_node(rt, parts, 7, "east", 5),
+        Fault::ClientTwice => add_client(rt, parts, 65536),
+        Fault::RegionTwice => add_region(rt, parts, "east"),
+        Fault::ServerTwice => add_node(rt, parts, 8, "east", 1007),
+        Fault::Homeless => move_home(rt, parts),
+        Fault::Stray => add_node(rt, parts, 11, "south", 1011),
+        Fault::EmptyRegion => add_region(rt, parts, "empty"),
+        Fault::LearnersAlone => add_school(rt, parts),
+        Fault::TableTwice => add_table(rt, parts, "notes", ["id"].as_slice()),
+        Fault::NoColumn => add_table(rt, parts, "bare", [].as_slice()),
+        Fault::ColumnTwice => add_table(rt, parts, "twins", ["id", "id"].as_slice()),
     }
 }
 
@@ -204,43 +202,42 @@ const FAULTS: [(Fault, BuildError); 13] = [
 ];
 
 /// The answer for good parts spoilt twice, or once where both faults are one.
-fn answer(
-    rt: &impl Abort,
-    alloc: Global,
-    fault: Fault,
-    other: Fault,
-) -> Result<Option<BuildError>, Memory> {
-    let mut parts = good(alloc)?;
-    spoil(alloc, &mut parts, other)?;
+fn answer(rt: &(impl AllocGlobal + Abort), fault: Fault, other: Fault) -> Option<BuildError> {
+    let mut parts = good(rt);
+    spoil(rt, &mut parts, other);
     if other != fault {
-        spoil(alloc, &mut parts, fault)?;
+        spoil(rt, &mut parts, fault);
     }
     assert!(rt; parts.is_in_range());
-    Ok(Ring::build(alloc, parts).err())
+    Ring::build(rt.alloc(), parts).err()
+}
+
+fn is_refused(rt: &(impl AllocGlobal + Abort), fault: Fault, other: Fault, cause: BuildError) {
+    let answer = answer(rt, fault, other);
+    assert_eq!(rt; answer, Some(cause), "{fault:?} and {other:?}");
 }
 
 #[test]
-fn refuses_by_the_first_cause(rt: HostRuntime) -> Result<(), Fail> {
+fn refuses_by_the_first_cause(rt: HostRuntime) {
     for (place, (fault, cause)) in FAULTS.iter().enumerate() {
         for (other, _) in FAULTS.iter().skip(place) {
-            let answer = answer(&rt, rt.alloc(), *fault, *other)?;
-            assert_eq!(rt; answer, Some(*cause), "{fault:?} and {other:?}");
+            is_refused(&rt, *fault, *other, *cause);
         }
     }
-    Ok(())
+}
+
+fn good_ring(rt: &(impl AllocGlobal + Abort)) -> Ring {
+    let parts = good(rt);
+    assert!(rt; parts.is_in_range());
+    Ring::build(rt.alloc(), parts).expect(rt, "a ring")
 }
 
 #[test]
-fn builds_a_ring(rt: HostRuntime) -> Result<(), Fail> {
-    let alloc = rt.alloc();
-    let parts = good(alloc)?;
-    assert!(rt; parts.is_in_range());
-    let ring = Ring::build(alloc, parts)?;
+fn builds_a_ring(rt: HostRuntime) {
+    let ring = good_ring(&rt);
     tells_its_places(&rt, &ring);
     tells_its_members(&rt, &ring);
-    let copy = ring.copy(alloc)?;
-    tells_its_members(&rt, &copy);
-    Ok(())
+    tells_its_members(&rt, &ring.copy(rt.alloc()).expect(&rt, "memory"));
 }
 
 fn tells_its_places(rt: &impl Abort, ring: &Ring) {
@@ -252,78 +249,80 @@ fn tells_its_places(rt: &impl Abort, ring: &Ring) {
     assert!(rt; !ring.is_client(7));
 }
 
+/// Expects a member of this region; whether it votes, and whether it runs an engine.
+fn has_member(rt: &impl Abort, ring: &Ring, number: u32, region: u16, does: (bool, bool)) {
+    let id = NodeId(number);
+    assert!(rt; ring.is_member(id));
+    assert_eq!(rt; ring.region_of(id), RegionId(region));
+    assert_eq!(rt; (ring.voter(id), ring.runs_engine(id)), does);
+    assert_eq!(rt; ring.server_of(id), 1000 + u128::from(number));
+}
+
 fn tells_its_members(rt: &impl Abort, ring: &Ring) {
-    for (number, region, votes, runs) in [
-        (7, 1, true, true),
-        (2, 1, true, false),
-        (9, 2, false, true),
-        (4, 2, true, true),
-    ] {
-        let id = NodeId(number);
-        assert!(rt; ring.is_member(id));
-        assert_eq!(rt; ring.region_of(id), RegionId(region));
-        assert_eq!(rt; ring.voter(id), votes);
-        assert_eq!(rt; ring.runs_engine(id), runs);
-        assert_eq!(rt; ring.server_of(id), 1000 + u128::from(number));
-    }
+    has_member(rt, ring, 7, 1, (true, true));
+    has_member(rt, ring, 2, 1, (true, false));
+    has_member(rt, ring, 9, 2, (false, true));
+    has_member(rt, ring, 4, 2, (true, true));
     assert!(rt; !ring.is_member(NodeId(1)));
     assert_eq!(rt; ring.region_of(NodeId(1)), RegionId(2));
 }
 
-fn entry(alloc: Global) -> Result<Entry, Memory> {
-    let row = List::of_one(alloc, Value::Int(5))?;
-    let table = Text::copy_of(alloc, "notes")?;
-    let changes = List::of_one(alloc, Change::Insert { table, row })?;
+fn entry(rt: &(impl AllocGlobal + Abort)) -> Entry {
+    let row = one(rt, Value::Int(5));
+    let table = text(rt, "notes");
+    let changes = one(rt, Change::Insert { table, row });
     let gtid = Gtid {
         server: 1007,
         number: 1,
     };
-    Ok(Entry {
+    Entry {
         opid: Opid {
             term: 3,
             position: 8,
         },
         region: RegionId(2),
         payload: Payload::Txn(Txn { gtid, changes }),
-    })
+    }
+}
+
+/// Expects a copy to be what was copied.
+fn copies<T: Duplicate + PartialEq + Drop>(rt: &(impl AllocGlobal + Abort), item: T) {
+    assert!(rt; item.copy(rt.alloc()).expect(rt, "memory") == item);
 }
 
 #[test]
-fn copies_what_it_is_given(rt: HostRuntime) -> Result<(), Fail> {
-    let alloc = rt.alloc();
-    let parts = good(alloc)?;
-    assert!(rt; parts.copy(alloc)? == parts);
-    let entry = entry(alloc)?;
-    assert!(rt; entry.copy(alloc)? == entry);
-    Ok(())
+fn copies_what_it_is_given(rt: HostRuntime) {
+    copies(&rt, good(&rt));
+    copies(&rt, entry(&rt));
+}
+
+/// The numbers from 1 to 6, put in one way after the other.
+fn six(rt: &(impl AllocGlobal + Abort)) -> List<u64> {
+    let mut list = one(rt, 1);
+    list.push(2).expect(rt, "memory");
+    list.extend_from_slice(&[3]).expect(rt, "memory");
+    list.append(one(rt, 4)).expect(rt, "memory");
+    list.extend_copies(rt.alloc(), &[5, 6]).expect(rt, "memory");
+    list
 }
 
 #[test]
-fn takes_and_gives_items(rt: HostRuntime) -> Result<(), Fail> {
-    let alloc = rt.alloc();
-    let mut list = List::from_vec(Vec::from_slice(alloc, &[1u64, 2])?);
-    list.extend_from_slice(&[3])?;
-    list.append(List::of_one(alloc, 4)?)?;
-    list.extend_copies(alloc, &[5, 6])?;
+fn takes_and_gives_items(rt: HostRuntime) {
+    let mut list = six(&rt);
     assert_eq!(rt; list.replace(0, 9), 1);
     assert_eq!(rt; list.replace(1, 8), 2);
     list.truncate(5);
     assert_eq!(rt; list.as_slice(), [9, 8, 3, 4, 5].as_slice());
     assert_eq!(rt; list.get(1).copied(), Some(8));
-    assert_eq!(rt; list.prefix(2), [9, 8].as_slice());
-    assert_eq!(rt; list.prefix(7), list.as_slice());
-    assert_eq!(rt; list.suffix(3), [4, 5].as_slice());
-    assert!(rt; list.suffix(7).is_empty());
-    Ok(())
 }
 
-/// A no-op of term 1, a rotate of term 1 and a no-op of term 3, all of region 2.
-fn three_entries(alloc: Global) -> Result<List<Entry>, Memory> {
-    let mut log = List::new(alloc);
-    log.push(plain_entry(1, 1, Payload::NoOp))?;
-    log.push(plain_entry(1, 2, Payload::Rotate))?;
-    log.push(plain_entry(3, 3, Payload::NoOp))?;
-    Ok(log)
+#[test]
+fn lends_prefixes_and_suffixes(rt: HostRuntime) {
+    let list = six(&rt);
+    assert_eq!(rt; list.prefix(2), [1, 2].as_slice());
+    assert_eq!(rt; list.prefix(7), list.as_slice());
+    assert_eq!(rt; list.suffix(4), [5, 6].as_slice());
+    assert!(rt; list.suffix(7).is_empty());
 }
 
 fn plain_entry(term: u64, position: u64, payload: Payload) -> Entry {
@@ -334,24 +333,48 @@ fn plain_entry(term: u64, position: u64, payload: Payload) -> Entry {
     }
 }
 
+fn add(rt: &impl Abort, log: &mut List<Entry>, entry: Entry) {
+    log.push(entry).expect(rt, "memory");
+}
+
+/// A no-op of term 1, a rotate of term 1 and a no-op of term 3, all of region 2.
+fn three_entries(rt: &(impl AllocGlobal + Abort)) -> List<Entry> {
+    let mut log = one(rt, plain_entry(1, 1, Payload::NoOp));
+    add(rt, &mut log, plain_entry(1, 2, Payload::Rotate));
+    add(rt, &mut log, plain_entry(3, 3, Payload::NoOp));
+    log
+}
+
+/// Expects this term and this region at a position.
+fn has_at(rt: &impl Abort, log: &[Entry], position: u64, term: u64, region: u16) {
+    assert_eq!(rt; term_at(log, position), term);
+    assert_eq!(rt; region_at(RegionId(1), log, position), RegionId(region));
+}
+
 #[test]
-fn tells_what_a_log_has(rt: HostRuntime) -> Result<(), Fail> {
-    let log = three_entries(rt.alloc())?;
+fn tells_what_a_log_has(rt: HostRuntime) {
+    let log = three_entries(&rt);
     let log = log.as_slice();
-    for (position, term, region) in [(0, 0, 1), (1, 1, 2), (2, 1, 2), (3, 3, 2), (4, 0, 1)] {
-        assert_eq!(rt; term_at(log, position), term);
-        assert_eq!(rt; region_at(RegionId(1), log, position), RegionId(region));
-    }
+    has_at(&rt, log, 0, 0, 1);
+    has_at(&rt, log, 1, 1, 2);
+    has_at(&rt, log, 2, 1, 2);
+    has_at(&rt, log, 3, 3, 2);
+    has_at(&rt, log, 4, 0, 1);
     assert_eq!(rt; rotates(log), 1);
-    for (term, position, at_least_as_new) in [
-        (3, 3, true),
-        (3, 4, true),
-        (4, 1, true),
-        (3, 2, false),
-        (2, 9, false),
-    ] {
-        let other = Opid { term, position };
-        assert_eq!(rt; at_least(other, last(log)), at_least_as_new);
-    }
-    Ok(())
+}
+
+/// Whether an opid is at least the last one of the log.
+fn is_as_new(log: &[Entry], term: u64, position: u64) -> bool {
+    at_least(Opid { term, position }, last(log))
+}
+
+#[test]
+fn tells_which_log_is_as_new(rt: HostRuntime) {
+    let log = three_entries(&rt);
+    let log = log.as_slice();
+    assert!(rt; is_as_new(log, 3, 3));
+    assert!(rt; is_as_new(log, 3, 4));
+    assert!(rt; is_as_new(log, 4, 1));
+    assert!(rt; !is_as_new(log, 3, 2));
+    assert!(rt; !is_as_new(log, 2, 9));
 }

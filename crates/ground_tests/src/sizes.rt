@@ -1,81 +1,80 @@
+//! Sizes of groups, and the GTIDs of a log.
+use super::fixtures::{one, pair, text, with};
 use ring_plain::{group_size, gtids, has, next_number};
 use ring_types::{
-    Change, Column, Entry, Gtid, Interval, List, Memory, Opid, Payload, RegionId, Schema,
-    ServerSet, Shape, Table, Text, Txn, Value,
+    Change, Column, Entry, Gtid, Interval, List, Opid, Payload, RegionId, Schema, ServerSet, Shape,
+    Table, Text, Txn, Value,
 };
-use std::alloc::Global;
-use std::test::Fail;
+use std::process::Abort;
 
 /// A text of so many bytes.
-fn long_text(alloc: Global, bytes: usize) -> Result<Text, Memory> {
-    let mut long = String::new(alloc);
+fn long_text(rt: &(impl AllocGlobal + Abort), bytes: usize) -> Text {
+    let mut long = String::new(rt.alloc());
     for _ in 0..bytes {
-        long.push_str("x")?;
+        long.push_str("x").expect(rt, "memory");
     }
-    Ok(Text::from_string(long))
+    Text::from_string(long)
 }
 
-fn pair<T: Drop>(alloc: Global, first: T, second: T) -> Result<List<T>, Memory> {
-    let mut both = List::of_one(alloc, first)?;
-    both.push(second)?;
-    Ok(both)
-}
-
-fn column(alloc: Global, name: &str, shape: Shape) -> Result<Column, Memory> {
-    Ok(Column {
-        name: Text::copy_of(alloc, name)?,
+fn column(rt: &(impl AllocGlobal + Abort), name: &str, shape: Shape) -> Column {
+    Column {
+        name: text(rt, name),
         shape,
-    })
+    }
 }
 
 /// A table with the columns `id int` and one of texts.
-fn table(alloc: Global, name: &str, of_texts: &str, limit: u16) -> Result<Table, Memory> {
-    let id = column(alloc, "id", Shape::Int)?;
-    let of_texts = column(alloc, of_texts, Shape::Text { limit })?;
-    Ok(Table {
-        name: Text::copy_of(alloc, name)?,
-        columns: pair(alloc, id, of_texts)?,
-    })
+fn table(rt: &(impl AllocGlobal + Abort), name: &str, of_texts: &str, limit: u16) -> Table {
+    let id = column(rt, "id", Shape::Int);
+    let of_texts = column(rt, of_texts, Shape::Text { limit });
+    Table {
+        name: text(rt, name),
+        columns: pair(rt, id, of_texts),
+    }
 }
 
 /// The tables `t` and `b` of the database `app`.
-fn schema(alloc: Global) -> Result<Schema, Memory> {
-    let names = table(alloc, "t", "name", 20)?;
-    let bodies = table(alloc, "b", "body", 16000)?;
-    Ok(Schema {
-        database: Text::copy_of(alloc, "app")?,
-        tables: pair(alloc, names, bodies)?,
-    })
+fn schema(rt: &(impl AllocGlobal + Abort)) -> Schema {
+    let names = table(rt, "t", "name", 20);
+    let bodies = table(rt, "b", "body", 16000);
+    Schema {
+        database: text(rt, "app"),
+        tables: pair(rt, names, bodies),
+    }
 }
 
-/// A row with a text of so many bytes, or Null.
-fn row(alloc: Global, id: i64, bytes: Option<usize>) -> Result<List<Value>, Memory> {
-    let value = match bytes {
-        Some(bytes) => Value::Text(long_text(alloc, bytes)?),
-        None => Value::Null,
-    };
-    pair(alloc, Value::Int(id), value)
+/// The insert of a row with a text of so many bytes.
+fn insert(rt: &(impl AllocGlobal + Abort), table: &str, id: i64, bytes: usize) -> Change {
+    let body = Value::Text(long_text(rt, bytes));
+    Change::Insert {
+        table: text(rt, table),
+        row: pair(rt, Value::Int(id), body),
+    }
 }
 
-fn insert(alloc: Global, table: &str, id: i64, bytes: usize) -> Result<Change, Memory> {
-    Ok(Change::Insert {
-        table: Text::copy_of(alloc, table)?,
-        row: row(alloc, id, Some(bytes))?,
-    })
+fn update_to_null(rt: &(impl AllocGlobal + Abort), id: i64) -> Change {
+    Change::Update {
+        table: text(rt, "t"),
+        row: pair(rt, Value::Int(id), Value::Null),
+    }
 }
 
-fn update_to_null(alloc: Global, id: i64) -> Result<Change, Memory> {
-    Ok(Change::Update {
-        table: Text::copy_of(alloc, "t")?,
-        row: row(alloc, id, None)?,
-    })
-}
-
-fn delete(alloc: Global, id: i64) -> Result<Change, Memory> {
-    Ok(Change::Delete {
-        table: Text::copy_of(alloc, "t")?,
+fn delete(rt: &(impl AllocGlobal + Abort), id: i64) -> Change {
+    Change::Delete {
+        table: text(rt, "t"),
         key: Value::Int(id),
-    })
+    }
+}
+
+/// 62 inserts of bodies of 16000 bytes and one of so many.
+fn bodies(rt: &(impl AllocGlobal + Abort), rest: usize) -> List<Change> {
+    let mut changes = List::new(rt.alloc());
+    for id in 0..62 {
+        changes
+            .push(insert(rt, "b", id, 16000))
+            .expect(rt, "memory");
+    }
+    with(rt, changes, insert(rt, "b", 62, rest))
 }
 
 fn transaction(server: u128, number: u64, changes: List<Change>) -> Payload {
@@ -85,106 +84,93 @@ fn transaction(server: u128, number: u64, changes: List<Change>) -> Payload {
     })
 }
 
-/// Puts an entry of the term at the end of the log, in region 2.
-fn put(log: &mut List<Entry>, term: u64, payload: Payload) -> Result<(), Memory> {
-    let position = (log.len() as u64).saturating_add(1);
-    log.push(Entry {
-        opid: Opid { term, position },
-        region: RegionId(2),
-        payload,
-    })
-}
-
-/// 62 inserts of bodies of 16000 bytes and one of so many.
-fn bodies(alloc: Global, rest: usize) -> Result<List<Change>, Memory> {
-    let mut changes = List::new(alloc);
-    for id in 0..62 {
-        changes.push(insert(alloc, "b", id, 16000)?)?;
-    }
-    changes.push(insert(alloc, "b", 62, rest)?)?;
-    Ok(changes)
-}
-
-/// Changes by the number of their case.
-fn changes_of(alloc: Global, case: u8) -> Result<List<Change>, Memory> {
-    match case {
-        0 => Ok(List::new(alloc)),
-        1 => List::of_one(alloc, insert(alloc, "t", 1, 0)?),
-        2 => List::of_one(alloc, insert(alloc, "t", 1, 5)?),
-        3 => List::of_one(alloc, update_to_null(alloc, 1)?),
-        4 => List::of_one(alloc, delete(alloc, 1)?),
-        5 => bodies(alloc, 2024),
-        _ => bodies(alloc, 2025),
-    }
+/// Expects the group of a transaction of these changes to have this size.
+fn has_size(rt: &impl Abort, schema: &Schema, changes: List<Change>, bytes: u64) {
+    let payload = transaction(7, 1, changes);
+    assert_eq!(rt; group_size(schema, &payload), bytes);
 }
 
 #[test]
-fn group_sizes(rt: HostRuntime) -> Result<(), Fail> {
-    let schema = schema(rt.alloc())?;
+fn group_sizes(rt: HostRuntime) {
+    let schema = schema(&rt);
     assert_eq!(rt; group_size(&schema, &Payload::NoOp), 42);
     assert_eq!(rt; group_size(&schema, &Payload::Rotate), 86);
-    for (case, bytes) in [
-        (0, 180),
-        (1, 180 + 46 + 45),
-        (2, 180 + 46 + 45 + 5),
-        (3, 180 + 46 + 54),
-        (4, 180 + 46 + 44),
-        (5, 1000000),
-        (6, 1000001),
-    ] {
-        let payload = transaction(7, 1, changes_of(rt.alloc(), case)?);
-        assert_eq!(rt; group_size(&schema, &payload), bytes, "case {case}");
-    }
-    Ok(())
+    has_size(&rt, &schema, List::new(rt.alloc()), 180);
+    let insert_of_none = one(&rt, insert(&rt, "t", 1, 0));
+    has_size(&rt, &schema, insert_of_none, 180 + 46 + 45);
+    let insert_of_five = one(&rt, insert(&rt, "t", 1, 5));
+    has_size(&rt, &schema, insert_of_five, 180 + 46 + 45 + 5);
+    let update = one(&rt, update_to_null(&rt, 1));
+    has_size(&rt, &schema, update, 180 + 46 + 54);
+    has_size(&rt, &schema, one(&rt, delete(&rt, 1)), 180 + 46 + 44);
 }
 
-/// Transactions without changes of two servers, each followed by a no-op.
-fn numbered(alloc: Global) -> Result<List<Entry>, Memory> {
-    let mut log = List::new(alloc);
-    for (server, number) in [(9, 4), (7, 3), (7, 1), (7, 5), (7, 2)] {
-        put(&mut log, 1, transaction(server, number, List::new(alloc)))?;
-        put(&mut log, 1, Payload::NoOp)?;
-    }
-    Ok(log)
+#[test]
+fn sizes_around_the_greatest(rt: HostRuntime) {
+    let schema = schema(&rt);
+    has_size(&rt, &schema, bodies(&rt, 2024), 1000000);
+    has_size(&rt, &schema, bodies(&rt, 2025), 1000001);
+}
+
+/// Puts an entry of term 1 at the end of the log, in region 2.
+fn put(rt: &impl Abort, log: &mut List<Entry>, payload: Payload) {
+    let position = (log.len() as u64).saturating_add(1);
+    let entry = Entry {
+        opid: Opid { term: 1, position },
+        region: RegionId(2),
+        payload,
+    };
+    log.push(entry).expect(rt, "memory");
+}
+
+/// Puts a transaction without changes, and a no-op behind it.
+fn put_numbered(rt: &(impl AllocGlobal + Abort), log: &mut List<Entry>, server: u128, number: u64) {
+    put(rt, log, transaction(server, number, List::new(rt.alloc())));
+    put(rt, log, Payload::NoOp);
+}
+
+/// Transactions of two servers, not in the order of their numbers.
+fn numbered(rt: &(impl AllocGlobal + Abort)) -> List<Entry> {
+    let mut log = List::new(rt.alloc());
+    put_numbered(rt, &mut log, 9, 4);
+    put_numbered(rt, &mut log, 7, 3);
+    put_numbered(rt, &mut log, 7, 1);
+    put_numbered(rt, &mut log, 7, 5);
+    put_numbered(rt, &mut log, 7, 2);
+    log
 }
 
 /// 1-3 and 5 of server 7, and 4 of server 9.
-fn numbered_sets(alloc: Global) -> Result<List<ServerSet>, Memory> {
+fn numbered_sets(rt: &(impl AllocGlobal + Abort)) -> List<ServerSet> {
     let front = Interval { first: 1, last: 3 };
-    let of_seven = pair(alloc, front, Interval { first: 5, last: 5 })?;
-    let of_nine = List::of_one(alloc, Interval { first: 4, last: 4 })?;
     let seven = ServerSet {
         server: 7,
-        intervals: of_seven,
+        intervals: pair(rt, front, Interval { first: 5, last: 5 }),
     };
     let nine = ServerSet {
         server: 9,
-        intervals: of_nine,
+        intervals: one(rt, Interval { first: 4, last: 4 }),
     };
-    pair(alloc, seven, nine)
+    pair(rt, seven, nine)
 }
 
 #[test]
-fn gtids_of_a_log(rt: HostRuntime) -> Result<(), Fail> {
-    let log = numbered(rt.alloc())?;
-    let sets = gtids(rt.alloc(), log.as_slice())?;
-    assert_eq!(rt; sets, numbered_sets(rt.alloc())?);
-    for (server, number, there) in [(7, 2, true), (7, 4, false), (9, 4, true), (9, 5, false)] {
-        assert_eq!(rt; has(sets.as_slice(), server, number), there);
-    }
-    Ok(())
+fn gtids_of_a_log(rt: HostRuntime) {
+    let log = numbered(&rt);
+    let sets = gtids(rt.alloc(), log.as_slice()).expect(&rt, "memory");
+    assert_eq!(rt; sets, numbered_sets(&rt));
+    assert!(rt; has(sets.as_slice(), 7, 2));
+    assert!(rt; !has(sets.as_slice(), 7, 4));
+    assert!(rt; has(sets.as_slice(), 9, 4));
+    assert!(rt; !has(sets.as_slice(), 9, 5));
 }
 
 #[test]
-fn next_numbers(rt: HostRuntime) -> Result<(), Fail> {
-    let mut log = numbered(rt.alloc())?;
-    put(
-        &mut log,
-        1,
-        transaction(5, 9223372036854775806, List::new(rt.alloc())),
-    )?;
-    for (server, next) in [(7, Some(6)), (8, Some(1)), (9, Some(5)), (5, None)] {
-        assert_eq!(rt; next_number(server, log.as_slice()), next);
-    }
-    Ok(())
+fn next_numbers(rt: HostRuntime) {
+    let mut log = numbered(&rt);
+    put_numbered(&rt, &mut log, 5, 9223372036854775806);
+    assert_eq!(rt; next_number(7, log.as_slice()), Some(6));
+    assert_eq!(rt; next_number(8, log.as_slice()), Some(1));
+    assert_eq!(rt; next_number(9, log.as_slice()), Some(5));
+    assert_eq!(rt; next_number(5, log.as_slice()), None);
 }

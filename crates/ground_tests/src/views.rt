@@ -6,11 +6,10 @@ ghost use Rattle.ring_types.specs.Logs as logs;
 ghost use Rattle.ring_types.specs.declared.entries.Payload.TheVariants as payload;
 ghost use Rattle.ring_types.specs.declared.schemas.Schema.{Schema};
 
-use super::fixtures::numbers;
+use super::fixtures::{numbers, text};
 use edge_traits::{DiskFault, FailingView, ListView, LogView};
-use ring_types::{Entry, List, Memory, Opid, Payload, RegionId, Text};
-use std::alloc::Global;
-use std::test::Fail;
+use ring_types::{Entry, List, Opid, Payload, RegionId};
+use std::process::Abort;
 
 /// The term of the last entry but one, 0 if there is none.
 fn term_before_last<V: LogView>(view: &mut V) -> Result<u64, DiskFault>
@@ -41,41 +40,34 @@ fn two() -> [Entry; 2]
     [entry(1, 1, 3), entry(3, 2, 4)]
 }
 
-fn no_tables(alloc: Global) -> Result<ring_types::Schema, Memory> {
-    Ok(ring_types::Schema {
-        database: Text::copy_of(alloc, "shop")?,
-        tables: List::new(alloc),
-    })
+fn no_tables(rt: &(impl AllocGlobal + Abort)) -> ring_types::Schema {
+    ring_types::Schema {
+        database: text(rt, "shop"),
+        tables: List::new(rt.alloc()),
+    }
 }
 
 #[test]
-fn a_view_reads_the_log_by_position(rt: HostRuntime) -> Result<(), Fail> {
+fn a_view_reads_the_log_by_position(rt: HostRuntime) {
     let log = two();
-    let schema = no_tables(rt.alloc())?;
+    let schema = no_tables(&rt);
     let mut view = ListView::new(rt.alloc(), &log, RegionId(7), &schema);
     assert!(rt; view.term_at(0) == Ok(0));
     assert!(rt; view.region_at(0) == Ok(RegionId(7)));
     assert!(rt; view.term_at(1) == Ok(1));
     assert!(rt; view.region_at(2) == Ok(RegionId(4)));
-    assert!(rt;
-        view.last()
-            == Ok(Opid {
-                term: 3,
-                position: 2
-            })
-    );
+    let (term, position) = (3, 2);
+    assert!(rt; view.last() == Ok(Opid { term, position }));
     assert!(rt; view.entry(1) == Ok(entry(1, 1, 3)));
-    Ok(())
 }
 
 #[test]
-fn a_failing_view_fails_at_its_calls(rt: HostRuntime) -> Result<(), Fail> {
+fn a_failing_view_fails_at_its_calls(rt: HostRuntime) {
     let log = two();
-    let schema = no_tables(rt.alloc())?;
-    let failing = numbers(rt.alloc(), &[1, 3])?;
+    let schema = no_tables(&rt);
+    let failing = numbers(&rt, &[1, 3]);
     let mut view = FailingView::new(rt.alloc(), &log, RegionId(7), &schema, failing);
     assert!(rt; term_before_last(&mut view) == Err(DiskFault::Failed));
     assert!(rt; term_before_last(&mut view) == Err(DiskFault::Failed));
     assert!(rt; term_before_last(&mut view) == Ok(1));
-    Ok(())
 }
