@@ -7,7 +7,6 @@ use event_control::{
 use event_frame::FrameError;
 use ring_types::{Opid, RegionId};
 use std::process::Abort;
-use std::test::Fail;
 
 /// The head of the first file: the set of earlier transactions is empty, which is eight zeros.
 const HEAD: [u8; 157] = [
@@ -38,9 +37,9 @@ const ROTATE: [u8; 44] = [
 ];
 
 #[test]
-fn head_of_a_fresh_file(rt: HostRuntime) -> Result<(), Fail> {
+fn head_of_a_fresh_file(rt: HostRuntime) {
     let mut out = Vec::new(rt.alloc());
-    write_head(&mut out, &[0, 0, 0, 0, 0, 0, 0, 0])?;
+    write_head(&mut out, &[0, 0, 0, 0, 0, 0, 0, 0]).expect(&rt, "memory");
     assert_eq!(rt; out.as_slice(), HEAD.as_slice());
     let head = Head {
         previous_at: 145,
@@ -48,17 +47,16 @@ fn head_of_a_fresh_file(rt: HostRuntime) -> Result<(), Fail> {
         size: 157,
     };
     assert_eq!(rt; read_head(&HEAD), Ok(head));
-    Ok(())
 }
 
 #[test]
-fn first_opid_event(rt: HostRuntime) -> Result<(), Fail> {
+fn first_opid_event(rt: HostRuntime) {
     let mut out = Vec::new(rt.alloc());
     let opid = Opid {
         term: 1,
         position: 1,
     };
-    write_opid(&mut out, 1, opid, RegionId(1), 157)?;
+    write_opid(&mut out, 1, opid, RegionId(1), 157).expect(&rt, "memory");
     assert_eq!(rt; out.as_slice(), NOOP.as_slice());
     let event = OpidEvent {
         kind: 1,
@@ -67,20 +65,18 @@ fn first_opid_event(rt: HostRuntime) -> Result<(), Fail> {
         size: 42,
     };
     assert_eq!(rt; read_opid(&NOOP, 157), Ok(event));
-    Ok(())
 }
 
 #[test]
-fn rotation_to_the_second_file(rt: HostRuntime) -> Result<(), Fail> {
+fn rotation_to_the_second_file(rt: HostRuntime) {
     let mut out = Vec::new(rt.alloc());
-    write_rotate(&mut out, 2, 241)?;
+    write_rotate(&mut out, 2, 241).expect(&rt, "memory");
     assert_eq!(rt; out.as_slice(), ROTATE.as_slice());
     let rotation = Rotation {
         next_file: 2,
         size: 44,
     };
     assert_eq!(rt; read_rotate(&ROTATE, 241), Ok(rotation));
-    Ok(())
 }
 
 /// Expects this refusal of the head with one byte changed, and the checksum that ends at `end`.
@@ -150,11 +146,10 @@ fn rotations_at_fault(rt: HostRuntime) {
 }
 
 #[test]
-fn name_of_the_last_file(rt: HostRuntime) -> Result<(), Fail> {
+fn name_of_the_last_file(rt: HostRuntime) {
     let mut out = Vec::new(rt.alloc());
-    write_rotate(&mut out, 999_999, 0)?;
+    write_rotate(&mut out, 999_999, 0).expect(&rt, "memory");
     let bytes = out.as_slice();
     assert_eq!(rt; bytes.len(), 44);
     assert_eq!(rt; &bytes[27..40], b"binlog.999999".as_slice());
-    Ok(())
 }

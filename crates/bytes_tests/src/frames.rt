@@ -5,7 +5,6 @@ use event_frame::{
     server_at, short_text_at, u8_at, u16_at, u32_at, u64_at, write_event,
 };
 use std::process::Abort;
-use std::test::Fail;
 
 /// The first entry of the first file, which writes nothing: it begins at offset 157.
 const FIRST: [u8; 42] = [
@@ -21,9 +20,9 @@ fn checksum_of_the_check_text(rt: HostRuntime) {
 }
 
 #[test]
-fn first_event_both_ways(rt: HostRuntime) -> Result<(), Fail> {
+fn first_event_both_ways(rt: HostRuntime) {
     let mut out = Vec::new(rt.alloc());
-    write_event(&mut out, 28, 0x80, &FIRST[19..38], 157)?;
+    write_event(&mut out, 28, 0x80, &FIRST[19..38], 157).expect(&rt, "memory");
     assert_eq!(rt; out.as_slice(), FIRST.as_slice());
     let event = Event {
         kind: 28,
@@ -33,7 +32,6 @@ fn first_event_both_ways(rt: HostRuntime) -> Result<(), Fail> {
         size: 42,
     };
     assert_eq!(rt; read_event(&FIRST, 157), Ok(event));
-    Ok(())
 }
 
 /// Expects this refusal of the first event with one byte changed.
@@ -79,22 +77,21 @@ fn no_packed_integers(rt: HostRuntime) {
 }
 
 #[test]
-fn numbers_of_each_width(rt: HostRuntime) -> Result<(), Fail> {
+fn numbers_of_each_width(rt: HostRuntime) {
     let bytes = [1, 2, 0, 3, 0, 0, 0, 4, 0, 0, 0, 0, 0, 0, 0];
-    let (one, rest) = u8_at(&bytes).ok().ok_or("one byte")?;
-    let (two, rest) = u16_at(rest).ok().ok_or("two bytes")?;
-    let (four, rest) = u32_at(rest).ok().ok_or("four bytes")?;
-    let (eight, rest) = u64_at(rest).ok().ok_or("eight bytes")?;
+    let (one, rest) = u8_at(&bytes).expect(&rt, "one byte");
+    let (two, rest) = u16_at(rest).expect(&rt, "two bytes");
+    let (four, rest) = u32_at(rest).expect(&rt, "four bytes");
+    let (eight, rest) = u64_at(rest).expect(&rt, "eight bytes");
     assert_eq!(rt; (one, two, four, eight), (1, 2, 3, 4));
     assert_eq!(rt; ended(rest), Ok(()));
     assert_eq!(rt; ended(&bytes), Err(FieldFault::Cut));
     assert_eq!(rt; u64_at(rest), Err(FieldFault::Cut));
-    Ok(())
 }
 
 #[test]
-fn texts_and_servers(rt: HostRuntime) -> Result<(), Fail> {
-    let rest = constant_at(b"ab\x02cd", b"ab").ok().ok_or("a constant")?;
+fn texts_and_servers(rt: HostRuntime) {
+    let rest = constant_at(b"ab\x02cd", b"ab").expect(&rt, "a constant");
     assert_eq!(rt; short_text_at(rest, 2), Ok(("cd", [].as_slice())));
     assert_eq!(rt; short_text_at(rest, 1), Err(FieldFault::Wrong));
     assert_eq!(rt; short_text_at(b"\x03cd", 1), Err(FieldFault::Cut));
@@ -103,5 +100,4 @@ fn texts_and_servers(rt: HostRuntime) -> Result<(), Fail> {
     assert_eq!(rt; constant_at(b"ab", b"ac"), Err(FieldFault::Wrong));
     let server = [0, 0, 0, 0, 0, 0, 0, 0, 0, 0, 0, 0, 0, 0, 1, 2];
     assert_eq!(rt; server_at(&server), Ok((258, [].as_slice())));
-    Ok(())
 }

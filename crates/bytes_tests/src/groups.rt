@@ -7,11 +7,8 @@ use entry_group::{EntryError, EntryRead, file_sizes, group_size, read_entry, wri
 use event_control::{read_head, write_head, write_opid, write_rotate};
 use event_frame::{crc32, write_event};
 use ring_plain::payload_fits;
-use ring_types::{
-    Change, Entry, Gtid, List, Memory, Opid, Payload, Place, RegionId, Schema, Txn, Value,
-};
+use ring_types::{Change, Entry, Gtid, List, Opid, Payload, Place, RegionId, Schema, Txn, Value};
 use std::process::Abort;
-use std::test::Fail;
 
 /// Behind the head of the first file.
 const FIRST: Place = Place {
@@ -56,50 +53,61 @@ fn inserted(rt: &(impl AllocGlobal + Abort)) -> Entry {
 }
 
 /// Puts the group of an entry that fits, at a place where it can stand.
-fn put(
-    rt: &impl Abort,
-    out: &mut Vec<u8>,
-    schema: &Schema,
-    entry: &Entry,
-    place: Place,
-) -> Result<(), Memory>
+fn put(rt: &impl Abort, out: &mut Vec<u8>, schema: &Schema, entry: &Entry, place: Place)
     requires { is_schema schema.now ≡ true }
 {
     assert!(rt; payload_fits(schema, &entry.payload));
     assert!(rt; place.file < 999_999 && 1 <= place.sequence && 1 <= schema.tables.len());
-    write_entry(out, schema, entry, place)
+    write_entry(out, schema, entry, place).expect(rt, "memory");
+}
+
+/// The first file's head, its NoOp and an insert.
+fn one_insert(rt: &(impl AllocGlobal + Abort), schema: &Schema) -> Vec<u8>
+    requires { is_schema schema.now ≡ true }
+{
+    let mut file = Vec::new(rt.alloc());
+    write_head(&mut file, &[0; 8]).expect(rt, "memory");
+    put(rt, &mut file, schema, &entry(1, Payload::NoOp), FIRST);
+    put(rt, &mut file, schema, &inserted(rt), SECOND);
+    file
+}
+
+/// Expects the file to have the group of this entry at a place, of this size.
+fn reads(
+    rt: &(impl AllocGlobal + Abort),
+    schema: &Schema,
+    bytes: &[u8],
+    place: Place,
+    read: EntryRead,
+)
+    requires { is_schema schema.now ≡ true }
+{
+    assert_eq!(rt; read_entry(rt.alloc(), schema, bytes, place), Ok(read));
+}
+
+fn part(file: &[u8], from: usize) -> &[u8] {
+    file.get(from..).unwrap_or(&[])
 }
 
 #[test]
-fn a_file_with_one_insert(rt: HostRuntime) -> Result<(), Fail> {
+fn a_file_with_one_insert(rt: HostRuntime) {
     let ring = ring_of_one(&rt);
     let schema = schema_of(&ring);
-    let first = entry(1, Payload::NoOp);
-    let second = inserted(&rt);
-    assert_eq!(rt; group_size(schema, &second.payload), 272);
-    let mut file = Vec::new(rt.alloc());
-    write_head(&mut file, &[0; 8])?;
-    put(&rt, &mut file, schema, &first, FIRST)?;
-    put(&rt, &mut file, schema, &second, SECOND)?;
+    let file = one_insert(&rt, schema);
     assert_eq!(rt; file.len(), 471);
     assert_eq!(rt; crc32(file.as_slice()), 0xed2e_e0f6);
-    let found = read_entry(rt.alloc(), schema, &file[157..], FIRST);
-    assert_eq!(rt;
-        found,
-        Ok(EntryRead {
-            entry: first,
-            size: 42
-        })
-    );
-    let found = read_entry(rt.alloc(), schema, &file[199..], SECOND);
-    assert_eq!(rt;
-        found,
-        Ok(EntryRead {
-            entry: second,
-            size: 272
-        })
-    );
-    Ok(())
+    let (entry, size) = (entry(1, Payload::NoOp), 42);
+    let first = part(file.as_slice(), 157);
+    reads(&rt, schema, first, FIRST, EntryRead { entry, size });
+    let (entry, size) = (inserted(&rt), 272);
+    let second = part(file.as_slice(), 199);
+    reads(&rt, schema, second, SECOND, EntryRead { entry, size });
+}
+
+#[test]
+fn the_size_of_an_insert(rt: HostRuntime) {
+    let ring = ring_of_one(&rt);
+    assert_eq!(rt; group_size(schema_of(&ring), &inserted(&rt).payload), 272);
 }
 
 fn delete(rt: &(impl AllocGlobal + Abort)) -> Change {
@@ -136,12 +144,14 @@ fn rotated(rt: &(impl AllocGlobal + Abort)) -> List<Entry> {
 }
 
 #[test]
-fn sizes_of_two_files(rt: HostRuntime) -> Result<(), Fail> {
+fn sizes_of_two_files(rt: HostRuntime) {
     let ring = ring_of_one(&rt);
     let log = rotated(&rt);
-    let sizes = file_sizes(rt.alloc(), schema_of(&ring), log.as_slice())?;
-    assert_eq!(rt; sizes.as_slice(), [1202, 197].as_slice());
-    Ok(())
+    let sizes = file_sizes(rt.alloc(), schema_of(&ring), log.as_slice());
+    assert_eq!(rt;
+        sizes.expect(&rt, "memory").as_slice(),
+        [1202, 197].as_slice()
+    );
 }
 
 fn refusal(rt: &(impl AllocGlobal + Abort), bytes: &[u8], place: Place) -> Option<EntryError> {
@@ -153,46 +163,48 @@ fn not(at: u64, why: u8) -> Option<EntryError> {
     Some(EntryError::NotAnEntry { at, why })
 }
 
-#[test]
-fn a_kind_that_no_entry_has(rt: HostRuntime) -> Result<(), Fail> {
+/// The event that tells an opid, of this kind of group.
+fn opid_event(rt: &(impl AllocGlobal + Abort), body: &[u8; 19]) -> Vec<u8> {
     let mut bytes = Vec::new(rt.alloc());
-    write_event(
-        &mut bytes,
-        28,
-        0x80,
+    write_event(&mut bytes, 28, 0x80, body, 157).expect(rt, "memory");
+    bytes
+}
+
+#[test]
+fn a_kind_that_no_entry_has(rt: HostRuntime) {
+    let bytes = opid_event(
+        &rt,
         &[4, 1, 0, 0, 0, 0, 0, 0, 0, 1, 0, 0, 0, 0, 0, 0, 0, 1, 0],
-        157,
-    )?;
+    );
     assert!(rt; refusal(&rt, bytes.as_slice(), FIRST) == not(0, 1));
     assert!(rt; refusal(&rt, &[], FIRST) == not(0, 1));
-    Ok(())
 }
 
-#[test]
-fn a_rotation_to_another_file(rt: HostRuntime) -> Result<(), Fail> {
+/// The group of a Rotate in the first file that leads to the third.
+fn astray(rt: &(impl AllocGlobal + Abort)) -> Vec<u8> {
     let mut bytes = Vec::new(rt.alloc());
-    let opid = Opid {
-        term: 1,
-        position: 1,
-    };
-    write_opid(&mut bytes, 2, opid, RegionId(1), 157)?;
-    write_rotate(&mut bytes, 3, 199)?;
-    assert!(rt; refusal(&rt, bytes.as_slice(), FIRST) == not(42, 2));
-    Ok(())
+    let (term, position) = (1, 1);
+    write_opid(&mut bytes, 2, Opid { term, position }, RegionId(1), 157).expect(rt, "memory");
+    write_rotate(&mut bytes, 3, 199).expect(rt, "memory");
+    bytes
 }
 
 #[test]
-fn a_transaction_without_a_number(rt: HostRuntime) -> Result<(), Fail> {
+fn a_rotation_to_another_file(rt: HostRuntime) {
+    assert!(rt; refusal(&rt, astray(&rt).as_slice(), FIRST) == not(42, 2));
+}
+
+#[test]
+fn a_transaction_without_a_number(rt: HostRuntime) {
     let ring = ring_of_one(&rt);
-    let mut bytes = Vec::new(rt.alloc());
-    put(&rt, &mut bytes, schema_of(&ring), &inserted(&rt), SECOND)?;
+    let file = one_insert(&rt, schema_of(&ring));
     let unnumbered = Place {
         file: 1,
         at: 199,
         sequence: 0,
     };
-    assert!(rt; refusal(&rt, bytes.as_slice(), unnumbered) == not(0, 1));
-    Ok(())
+    let group = part(file.as_slice(), 199);
+    assert!(rt; refusal(&rt, group, unnumbered) == not(0, 1));
 }
 
 /// Where each event of the file with one insert begins, and which event is due there.
@@ -225,16 +237,6 @@ fn group_of(offset: usize) -> (usize, Place) {
     } else {
         (199, SECOND)
     }
-}
-
-fn one_insert(rt: &(impl AllocGlobal + Abort)) -> Result<Vec<u8>, Fail> {
-    let ring = ring_of_one(rt);
-    let schema = schema_of(&ring);
-    let mut file = Vec::new(rt.alloc());
-    write_head(&mut file, &[0; 8])?;
-    put(rt, &mut file, schema, &entry(1, Payload::NoOp), FIRST)?;
-    put(rt, &mut file, schema, &inserted(rt), SECOND)?;
-    Ok(file)
 }
 
 /// Whether what stands at this place is refused as an event at this offset of the file should be.
@@ -287,24 +289,22 @@ fn each_bit_is_told(
 }
 
 #[test]
-fn each_bit_turned_over_is_refused_at_its_event(rt: HostRuntime) -> Result<(), Fail> {
+fn each_bit_turned_over_is_refused_at_its_event(rt: HostRuntime) {
     let ring = ring_of_one(&rt);
     let schema = schema_of(&ring);
-    let mut file = one_insert(&rt)?;
+    let mut file = one_insert(&rt, schema);
     for offset in 0..471usize {
         assert!(rt; each_bit_is_told(&rt, schema, file.as_mut_slice(), offset));
     }
-    Ok(())
 }
 
 #[test]
-fn each_cut_is_refused_at_its_event(rt: HostRuntime) -> Result<(), Fail> {
+fn each_cut_is_refused_at_its_event(rt: HostRuntime) {
     let ring = ring_of_one(&rt);
     let schema = schema_of(&ring);
-    let file = one_insert(&rt)?;
+    let file = one_insert(&rt, schema);
     for end in 0..471usize {
         let cut = file.get(..end).unwrap_or(&[]);
         assert!(rt; is_told(&rt, schema, cut, end));
     }
-    Ok(())
 }

@@ -5,10 +5,8 @@ use super::fixtures::{SERVER, one, ring, ring_of_one, row, schema_of, table, tex
 use event_frame::{FrameError, write_event};
 use event_txn::{TxnError, read_txn, write_txn};
 use ring_plain::changes_fit;
-use ring_types::{Change, Gtid, List, Memory, Place, Schema, Table, Txn, Value};
-use std::alloc::Global;
+use ring_types::{Change, Gtid, List, Place, Schema, Table, Txn, Value};
 use std::process::Abort;
-use std::test::Fail;
 
 /// Behind the first entry of the first file and the opid event of the second.
 const PLACE: Place = Place {
@@ -100,59 +98,52 @@ fn delete(rt: &(impl AllocGlobal + Abort)) -> Change {
     }
 }
 
-fn written(rt: &impl Abort, alloc: Global, schema: &Schema, txn: &Txn) -> Result<Vec<u8>, Memory>
+fn written(rt: &(impl AllocGlobal + Abort), schema: &Schema, txn: &Txn) -> Vec<u8>
     requires { is_schema schema.now ≡ true }
 {
-    let mut out = Vec::new(alloc);
+    let mut out = Vec::new(rt.alloc());
     assert!(rt; changes_fit(schema, txn.changes.as_slice()));
-    write_txn(&mut out, schema, txn, 2, PLACE)?;
-    Ok(out)
+    write_txn(&mut out, schema, txn, 2, PLACE).expect(rt, "memory");
+    out
 }
 
-fn reads(
-    rt: &impl Abort,
-    alloc: Global,
-    schema: &Schema,
-    bytes: &[u8],
-    txn: &Txn,
-) -> Result<(), TxnError>
+/// Expects the bytes to be read as this transaction.
+fn reads(rt: &(impl AllocGlobal + Abort), schema: &Schema, bytes: &[u8], txn: &Txn)
     requires { is_schema schema.now ≡ true }
 {
-    let read = read_txn(alloc, schema, bytes, 2, PLACE)?;
+    let read = read_txn(rt.alloc(), schema, bytes, 2, PLACE).expect(rt, "a transaction");
     assert_eq!(rt; read.size, bytes.len() as u64);
     assert!(rt; read.txn == *txn);
-    Ok(())
+}
+
+/// The events of the transaction that inserts, with these from the row on.
+fn events_with(rt: &(impl AllocGlobal + Abort), behind: &[u8]) -> Vec<u8> {
+    let mut events = Vec::new(rt.alloc());
+    let front = inserted().get(..153).unwrap_or(&[]);
+    events.extend_from_slice(front).expect(rt, "memory");
+    events.extend_from_slice(behind).expect(rt, "memory");
+    events
 }
 
 /// Expects that the transaction of this change has these events from the row on, and no other.
-fn goes_both_ways(
-    rt: &(impl AllocGlobal + Abort),
-    alloc: Global,
-    schema: &Schema,
-    change: Change,
-    behind: &[u8],
-) -> Result<(), Fail>
+fn goes_both_ways(rt: &(impl AllocGlobal + Abort), schema: &Schema, change: Change, behind: &[u8])
     requires { is_schema schema.now ≡ true }
 {
-    let mut events = Vec::new(alloc);
-    events.extend_from_slice(inserted().get(..153).unwrap_or(&[]))?;
-    events.extend_from_slice(behind)?;
+    let events = events_with(rt, behind);
     let txn = txn(rt, change);
-    let out = written(rt, alloc, schema, &txn)?;
+    let out = written(rt, schema, &txn);
     assert_eq!(rt; out.as_slice(), events.as_slice());
-    reads(rt, alloc, schema, events.as_slice(), &txn)?;
-    Ok(())
+    reads(rt, schema, events.as_slice(), &txn);
 }
 
 #[test]
-fn each_change_both_ways(rt: HostRuntime) -> Result<(), Fail> {
-    let alloc = rt.alloc();
+fn each_change_both_ways(rt: HostRuntime) {
     let ring = ring_of_one(&rt);
     let schema = schema_of(&ring);
     let behind = inserted().get(153..).unwrap_or(&[]);
-    goes_both_ways(&rt, alloc, schema, insert(&rt), behind)?;
-    goes_both_ways(&rt, alloc, schema, update(&rt), updated())?;
-    goes_both_ways(&rt, alloc, schema, delete(&rt), deleted())
+    goes_both_ways(&rt, schema, insert(&rt), behind);
+    goes_both_ways(&rt, schema, update(&rt), updated());
+    goes_both_ways(&rt, schema, delete(&rt), deleted());
 }
 
 /// What kind of fault a change of a body makes.
@@ -212,48 +203,47 @@ fn bodies() -> &'static [(u8, usize, usize)] {
     &BODIES
 }
 
-/// Puts the body with these bytes in the place of others.
+/// The bytes with these in the place of others.
 fn edited(
-    alloc: Global,
+    rt: &(impl AllocGlobal + Abort),
     body: &[u8],
     at: usize,
     gone: usize,
     put: &[u8],
-) -> Result<Vec<u8>, Memory> {
-    let mut out = Vec::new(alloc);
-    out.extend_from_slice(body.get(..at).unwrap_or(&[]))?;
-    out.extend_from_slice(put)?;
-    out.extend_from_slice(body.get(at.wrapping_add(gone)..).unwrap_or(&[]))?;
-    Ok(out)
+) -> Vec<u8> {
+    let mut out = Vec::new(rt.alloc());
+    let front = body.get(..at).unwrap_or(&[]);
+    out.extend_from_slice(front).expect(rt, "memory");
+    out.extend_from_slice(put).expect(rt, "memory");
+    let rest = body.get(at.wrapping_add(gone)..).unwrap_or(&[]);
+    out.extend_from_slice(rest).expect(rt, "memory");
+    out
+}
+
+/// Adds an event behind those that are there.
+fn add(rt: &impl Abort, out: &mut Vec<u8>, kind: u8, body: &[u8]) {
+    let at = PLACE.at.wrapping_add(out.len() as u64);
+    assert!(rt; body.len() < 1000);
+    write_event(out, kind, 0, body, at).expect(rt, "memory");
 }
 
 /// The events of [`INSERTED`] of which one has another type or body.
-fn with(
-    rt: &impl Abort,
-    alloc: Global,
-    event: usize,
-    kind: u8,
-    body: &[u8],
-) -> Result<Vec<u8>, Memory> {
-    let mut out = Vec::new(alloc);
+fn with(rt: &(impl AllocGlobal + Abort), event: usize, kind: u8, body: &[u8]) -> Vec<u8> {
+    let mut out = Vec::new(rt.alloc());
     for (index, (due, begin, end)) in bodies().iter().enumerate() {
-        let at = PLACE.at.wrapping_add(out.len() as u64);
         if index == event {
-            assert!(rt; body.len() < 1000);
-            write_event(&mut out, kind, 0, body, at)?;
+            add(rt, &mut out, kind, body);
         } else {
             let body = inserted().get(*begin..*end).unwrap_or(&[]);
-            assert!(rt; body.len() < 1000);
-            write_event(&mut out, *due, 0, body, at)?;
+            add(rt, &mut out, *due, body);
         }
     }
-    Ok(out)
+    out
 }
 
 /// Expects this refusal of the bytes.
 fn refuses(
-    rt: &impl Abort,
-    alloc: Global,
+    rt: &(impl AllocGlobal + Abort),
     schema: &Schema,
     bytes: &[u8],
     place: Place,
@@ -261,51 +251,56 @@ fn refuses(
 )
     requires { is_schema schema.now ≡ true }
 {
-    let answer = read_txn(alloc, schema, bytes, 2, place).err();
+    let answer = read_txn(rt.alloc(), schema, bytes, 2, place).err();
     assert_eq!(rt; answer, Some(wanted));
 }
 
-fn refuses_edit(rt: &impl Abort, alloc: Global, schema: &Schema, edit: &Edit) -> Result<(), Fail>
-    requires { is_schema schema.now ≡ true }
-{
-    let (event, at, gone, put, fault) = edit;
-    let (kind, begin, end) = bodies().get(*event).ok_or("no such event")?;
-    let old = inserted().get(*begin..*end).unwrap_or(&[]);
-    let body = edited(alloc, old, *at, *gone, put)?;
-    let bytes = with(rt, alloc, *event, *kind, body.as_slice())?;
-    let wanted = fault_at((*begin as u64).wrapping_sub(19), *fault);
-    refuses(rt, alloc, schema, bytes.as_slice(), PLACE, wanted);
-    Ok(())
+/// The events with one changed body.
+fn spoilt(rt: &(impl AllocGlobal + Abort), edit: &Edit) -> Vec<u8> {
+    let (event, at, gone, put, _) = edit;
+    let (kind, begin, end) = bodies().get(*event).copied().unwrap_or((0, 0, 0));
+    let old = inserted().get(begin..end).unwrap_or(&[]);
+    let body = edited(rt, old, *at, *gone, put);
+    with(rt, *event, kind, body.as_slice())
+}
+
+/// The fault of a changed body, at its event.
+fn fault_of(edit: &Edit) -> TxnError {
+    let (_, begin, _) = bodies().get(edit.0).copied().unwrap_or((0, 0, 0));
+    fault_at((begin as u64).wrapping_sub(19), edit.4)
 }
 
 #[test]
-fn refuses_each_small_change(rt: HostRuntime) -> Result<(), Fail> {
+fn refuses_each_small_change(rt: HostRuntime) {
     let ring = ring_of_one(&rt);
+    let schema = schema_of(&ring);
     for edit in edits() {
-        refuses_edit(&rt, rt.alloc(), schema_of(&ring), edit)?;
+        refuses(
+            &rt,
+            schema,
+            spoilt(&rt, edit).as_slice(),
+            PLACE,
+            fault_of(edit),
+        );
     }
-    Ok(())
 }
 
 #[test]
-fn refuses_each_event_of_another_type(rt: HostRuntime) -> Result<(), Fail> {
+fn refuses_each_event_of_another_type(rt: HostRuntime) {
     let ring = ring_of_one(&rt);
+    let schema = schema_of(&ring);
     for (event, (_, begin, _)) in bodies().iter().enumerate() {
-        let bytes = with(&rt, rt.alloc(), event, 28, &[])?;
-        let wanted = TxnError::Order {
-            at: (*begin as u64).wrapping_sub(19),
-        };
-        let schema = schema_of(&ring);
-        refuses(&rt, rt.alloc(), schema, bytes.as_slice(), PLACE, wanted);
+        let at = (*begin as u64).wrapping_sub(19);
+        let bytes = with(&rt, event, 28, &[]);
+        refuses(&rt, schema, bytes.as_slice(), PLACE, TxnError::Order { at });
     }
-    Ok(())
 }
 
 /// Expects that no transaction begins at this place in the log of a ring with these tables.
 fn refuses_gtid(rt: &(impl AllocGlobal + Abort), tables: List<Table>, place: Place) {
     let ring = ring(rt, tables);
     let wanted = TxnError::Order { at: 0 };
-    refuses(rt, rt.alloc(), schema_of(&ring), inserted(), place, wanted);
+    refuses(rt, schema_of(&ring), inserted(), place, wanted);
 }
 
 /// A transaction has a number within its file, from 1 on.
@@ -326,13 +321,12 @@ fn refuses_a_transaction_without_a_table(rt: HostRuntime) {
 }
 
 #[test]
-fn refuses_a_cut_event(rt: HostRuntime) -> Result<(), Fail> {
+fn refuses_a_cut_event(rt: HostRuntime) {
     let ring = ring_of_one(&rt);
     let cut = inserted().get(..229).unwrap_or(&[]);
     let wanted = TxnError::Frame {
         at: 199,
         fault: FrameError::Short,
     };
-    refuses(&rt, rt.alloc(), schema_of(&ring), cut, PLACE, wanted);
-    Ok(())
+    refuses(&rt, schema_of(&ring), cut, PLACE, wanted);
 }

@@ -1,60 +1,93 @@
+//! Prepared transactions: locks, the front, rolling back and dropping.
+use super::fixtures::{one, pair, text};
 use prepared_txns::{PrepareError, Prepared};
-use ring_types::{Change, Gtid, List, Memory, Opid, Pair, Text, Txn, Value};
-use std::alloc::Global;
+use ring_types::{Change, Gtid, List, Opid, Pair, Txn, Value};
 use std::process::Abort;
-use std::test::Fail;
 
 fn opid(position: u64) -> Opid {
     Opid { term: 3, position }
 }
 
-fn text(alloc: Global, key: &str) -> Result<Value, Memory> {
-    Ok(Value::Text(Text::copy_of(alloc, key)?))
-}
-
 /// A row of the table with this key.
-fn row(alloc: Global, table: &str, key: Value) -> Result<Change, Memory> {
-    let mut row = List::of_one(alloc, key)?;
-    row.push(Value::Int(8))?;
-    Ok(Change::Insert {
-        table: Text::copy_of(alloc, table)?,
-        row,
-    })
+fn row(rt: &(impl AllocGlobal + Abort), table: &str, key: Value) -> Change {
+    Change::Insert {
+        table: text(rt, table),
+        row: pair(rt, key, Value::Int(8)),
+    }
 }
 
 /// The taking away of a row with this key.
-fn no_row(alloc: Global, table: &str, key: Value) -> Result<Change, Memory> {
-    Ok(Change::Delete {
-        table: Text::copy_of(alloc, table)?,
+fn no_row(rt: &(impl AllocGlobal + Abort), table: &str, key: Value) -> Change {
+    Change::Delete {
+        table: text(rt, table),
         key,
-    })
+    }
 }
 
-fn one(alloc: Global, change: Change) -> Result<Txn, Memory> {
-    Ok(Txn {
-        gtid: Gtid {
-            server: 7,
-            number: 1,
-        },
-        changes: List::of_one(alloc, change)?,
-    })
+fn letter(rt: &(impl AllocGlobal + Abort)) -> Value {
+    Value::Text(text(rt, "1"))
 }
 
-fn two(alloc: Global, first: Change, second: Change) -> Result<Txn, Memory> {
-    let mut txn = one(alloc, first)?;
-    txn.changes.push(second)?;
-    Ok(txn)
-}
-
-/// Prepares a transaction that inserts one row with a number for its key into the table `t`.
-fn prepare(
-    alloc: Global,
+/// The answer to the preparing of these changes.
+fn answer(
     prepared: &mut Prepared,
     position: u64,
-    key: i64,
-) -> Result<Result<(), PrepareError>, Memory> {
-    let txn = one(alloc, row(alloc, "t", Value::Int(key))?)?;
-    Ok(prepared.prepare(opid(position), txn))
+    changes: List<Change>,
+) -> Result<(), PrepareError> {
+    let gtid = Gtid {
+        server: 7,
+        number: 1,
+    };
+    prepared.prepare(opid(position), Txn { gtid, changes })
+}
+
+/// Expects these changes to be prepared.
+fn takes(rt: &impl Abort, prepared: &mut Prepared, position: u64, changes: List<Change>) {
+    assert_eq!(rt; answer(prepared, position, changes), Ok(()));
+}
+
+/// Expects the change at this place to be refused for what the transaction at `holder` holds.
+fn refuses(
+    rt: &impl Abort,
+    prepared: &mut Prepared,
+    changes: List<Change>,
+    change: u64,
+    holder: u64,
+) {
+    let holder = opid(holder);
+    let locked = PrepareError::Locked { change, holder };
+    assert_eq!(rt; answer(prepared, 99, changes), Err(locked));
+}
+
+/// Prepares the insert of one row with a number for its key into the table `t`.
+fn prepare(rt: &(impl AllocGlobal + Abort), prepared: &mut Prepared, position: u64, key: i64) {
+    takes(
+        rt,
+        prepared,
+        position,
+        one(rt, row(rt, "t", Value::Int(key))),
+    );
+}
+
+/// Expects that insert to be refused for what the transaction at `holder` holds.
+fn refuses_key(rt: &(impl AllocGlobal + Abort), prepared: &mut Prepared, key: i64, holder: u64) {
+    refuses(
+        rt,
+        prepared,
+        one(rt, row(rt, "t", Value::Int(key))),
+        0,
+        holder,
+    );
+}
+
+/// The transactions at positions 5, 6, 7 and 8, each with its position for its key.
+fn four(rt: &(impl AllocGlobal + Abort)) -> Prepared {
+    let mut prepared = Prepared::new(rt.alloc());
+    prepare(rt, &mut prepared, 5, 5);
+    prepare(rt, &mut prepared, 6, 6);
+    prepare(rt, &mut prepared, 7, 7);
+    prepare(rt, &mut prepared, 8, 8);
+    prepared
 }
 
 fn stand_at(rt: &impl Abort, prepared: &Prepared, positions: &[u64]) {
@@ -65,133 +98,105 @@ fn stand_at(rt: &impl Abort, prepared: &Prepared, positions: &[u64]) {
     }
 }
 
-#[test]
-fn a_locked_key_is_told_with_its_change_and_its_holder(rt: HostRuntime) -> Result<(), Fail> {
-    let alloc = rt.alloc();
-    let mut prepared = Prepared::new(rt.alloc());
-    assert_eq!(rt; prepare(rt.alloc(), &mut prepared, 5, 1)?, Ok(()));
-    assert_eq!(rt; prepare(rt.alloc(), &mut prepared, 6, 2)?, Ok(()));
-    let free = row(rt.alloc(), "t", Value::Int(4))?;
-    let held = no_row(rt.alloc(), "t", Value::Int(1))?;
-    let txn = two(alloc, free, held)?;
-    match prepared.conflict(&txn.changes) {
-        Some(conflict) => {
-            assert_eq!(rt; conflict.change, 1);
-            assert_eq!(rt; conflict.holder, opid(5));
-        }
-        None => panic!(rt; "no conflict is told"),
+/// The place of the first change whose key is held, and the holder's position.
+fn conflict(prepared: &Prepared, changes: &List<Change>) -> Option<(u64, u64)> {
+    match prepared.conflict(changes) {
+        Some(conflict) => Some((conflict.change, conflict.holder.position)),
+        None => None,
     }
-    let locked = PrepareError::Locked {
-        change: 1,
-        holder: opid(5),
-    };
-    assert_eq!(rt; prepared.prepare(opid(7), txn), Err(locked));
-    stand_at(&rt, &prepared, &[5, 6]);
-    Ok(())
+}
+
+/// A new row, and the taking away of the row 5.
+fn free_and_held(rt: &(impl AllocGlobal + Abort)) -> List<Change> {
+    let free = row(rt, "t", Value::Int(4));
+    pair(rt, free, no_row(rt, "t", Value::Int(5)))
 }
 
 #[test]
-fn the_front_frees_its_keys_and_no_others(rt: HostRuntime) -> Result<(), Fail> {
-    let mut prepared = Prepared::new(rt.alloc());
-    assert!(rt; prepared.take_front().is_none());
-    assert_eq!(rt; prepare(rt.alloc(), &mut prepared, 5, 1)?, Ok(()));
-    assert_eq!(rt; prepare(rt.alloc(), &mut prepared, 6, 2)?, Ok(()));
-    assert_eq!(rt; prepare(rt.alloc(), &mut prepared, 7, 3)?, Ok(()));
+fn a_locked_key_is_told_with_its_change_and_its_holder(rt: HostRuntime) {
+    let mut prepared = four(&rt);
+    assert_eq!(rt; conflict(&prepared, &free_and_held(&rt)), Some((1, 5)));
+    refuses(&rt, &mut prepared, free_and_held(&rt), 1, 5);
+    stand_at(&rt, &prepared, &[5, 6, 7, 8]);
+}
+
+fn front(prepared: &Prepared) -> Option<u64> {
     match prepared.front() {
-        Some(front) => assert_eq!(rt; front.opid, opid(5)),
-        None => panic!(rt; "there is no front"),
+        Some(front) => Some(front.opid.position),
+        None => None,
     }
+}
+
+fn take_front(prepared: &mut Prepared) -> Option<u64> {
     match prepared.take_front() {
-        Some(front) => assert_eq!(rt; front.opid, opid(5)),
-        None => panic!(rt; "no front is taken"),
+        Some(front) => Some(front.opid.position),
+        None => None,
     }
-    stand_at(&rt, &prepared, &[6, 7]);
-    assert_eq!(rt; prepare(rt.alloc(), &mut prepared, 8, 1)?, Ok(()));
-    let locked = PrepareError::Locked {
-        change: 0,
-        holder: opid(6),
-    };
-    assert_eq!(rt; prepare(rt.alloc(), &mut prepared, 9, 2)?, Err(locked));
-    stand_at(&rt, &prepared, &[6, 7, 8]);
-    Ok(())
 }
 
 #[test]
-fn a_roll_back_keeps_the_pair_at_the_position(rt: HostRuntime) -> Result<(), Fail> {
+fn the_front_frees_its_keys_and_no_others(rt: HostRuntime) {
+    let mut prepared = four(&rt);
+    assert_eq!(rt; front(&prepared), Some(5));
+    assert_eq!(rt; take_front(&mut prepared), Some(5));
+    stand_at(&rt, &prepared, &[6, 7, 8]);
+    prepare(&rt, &mut prepared, 9, 5);
+    refuses_key(&rt, &mut prepared, 6, 6);
+    stand_at(&rt, &prepared, &[6, 7, 8, 9]);
+}
+
+#[test]
+fn no_pair_is_at_the_front_of_none(rt: HostRuntime) {
     let mut prepared = Prepared::new(rt.alloc());
-    for position in 5..9u64 {
-        assert_eq!(rt;
-            prepare(rt.alloc(), &mut prepared, position, position as i64)?,
-            Ok(())
-        );
-    }
+    assert_eq!(rt; front(&prepared), None);
+    assert_eq!(rt; take_front(&mut prepared), None);
+}
+
+#[test]
+fn a_roll_back_keeps_the_pair_at_the_position(rt: HostRuntime) {
+    let mut prepared = four(&rt);
     prepared.roll_back_after(6);
     stand_at(&rt, &prepared, &[5, 6]);
-    let locked = PrepareError::Locked {
-        change: 0,
-        holder: opid(6),
-    };
-    assert_eq!(rt; prepare(rt.alloc(), &mut prepared, 7, 6)?, Err(locked));
-    assert_eq!(rt; prepare(rt.alloc(), &mut prepared, 7, 8)?, Ok(()));
+    refuses_key(&rt, &mut prepared, 6, 6);
+    prepare(&rt, &mut prepared, 7, 8);
     stand_at(&rt, &prepared, &[5, 6, 7]);
-    Ok(())
 }
 
 #[test]
-fn a_number_and_a_text_are_two_keys(rt: HostRuntime) -> Result<(), Fail> {
+fn a_number_and_a_text_are_two_keys(rt: HostRuntime) {
     let mut prepared = Prepared::new(rt.alloc());
-    let number = row(rt.alloc(), "t", Value::Int(1))?;
-    let letter = row(rt.alloc(), "t", text(rt.alloc(), "1")?)?;
-    let elsewhere = row(rt.alloc(), "u", Value::Int(1))?;
-    assert_eq!(rt; prepared.prepare(opid(5), one(rt.alloc(), number)?), Ok(()));
-    assert_eq!(rt; prepared.prepare(opid(6), one(rt.alloc(), letter)?), Ok(()));
-    assert_eq!(rt;
-        prepared.prepare(opid(7), one(rt.alloc(), elsewhere)?),
-        Ok(())
-    );
-    let again = no_row(rt.alloc(), "t", text(rt.alloc(), "1")?)?;
-    let locked = PrepareError::Locked {
-        change: 0,
-        holder: opid(6),
-    };
-    assert_eq!(rt;
-        prepared.prepare(opid(8), one(rt.alloc(), again)?),
-        Err(locked)
-    );
-    Ok(())
+    let number = row(&rt, "t", Value::Int(1));
+    takes(&rt, &mut prepared, 5, one(&rt, number));
+    let of_letter = row(&rt, "t", letter(&rt));
+    takes(&rt, &mut prepared, 6, one(&rt, of_letter));
+    let elsewhere = row(&rt, "u", Value::Int(1));
+    takes(&rt, &mut prepared, 7, one(&rt, elsewhere));
+    let again = no_row(&rt, "t", letter(&rt));
+    refuses(&rt, &mut prepared, one(&rt, again), 0, 6);
+}
+
+/// Two opids of pairs, and one that names a position in another term.
+fn strays(rt: &(impl AllocGlobal + Abort)) -> List<Opid> {
+    let mut strays = pair(rt, opid(5), opid(7));
+    let (term, position) = (2, 8);
+    strays.push(Opid { term, position }).expect(rt, "memory");
+    strays
 }
 
 #[test]
-fn pairs_that_the_log_lacks_are_dropped(rt: HostRuntime) -> Result<(), Fail> {
-    let mut prepared = Prepared::new(rt.alloc());
-    for position in 5..9u64 {
-        assert_eq!(rt;
-            prepare(rt.alloc(), &mut prepared, position, position as i64)?,
-            Ok(())
-        );
-    }
-    let mut strays = List::of_one(rt.alloc(), opid(5))?;
-    strays.push(opid(7))?;
-    strays.push(Opid {
-        term: 2,
-        position: 8,
-    })?;
-    prepared.drop_pairs(&strays);
+fn pairs_that_the_log_lacks_are_dropped(rt: HostRuntime) {
+    let mut prepared = four(&rt);
+    prepared.drop_pairs(&strays(&rt));
     stand_at(&rt, &prepared, &[6, 8]);
-    assert_eq!(rt; prepare(rt.alloc(), &mut prepared, 9, 7)?, Ok(()));
-    Ok(())
+    prepare(&rt, &mut prepared, 9, 7);
 }
 
 #[test]
-fn two_changes_of_one_transaction_may_write_one_key(rt: HostRuntime) -> Result<(), Fail> {
+fn two_changes_of_one_transaction_may_write_one_key(rt: HostRuntime) {
     let mut prepared = Prepared::new(rt.alloc());
-    let put = row(rt.alloc(), "t", Value::Int(1))?;
-    let gone = no_row(rt.alloc(), "t", Value::Int(1))?;
-    assert_eq!(rt;
-        prepared.prepare(opid(5), two(rt.alloc(), put, gone)?),
-        Ok(())
-    );
-    assert!(rt; prepared.take_front().is_some());
-    assert_eq!(rt; prepare(rt.alloc(), &mut prepared, 6, 1)?, Ok(()));
-    Ok(())
+    let put = row(&rt, "t", Value::Int(1));
+    let gone = no_row(&rt, "t", Value::Int(1));
+    takes(&rt, &mut prepared, 5, pair(&rt, put, gone));
+    assert_eq!(rt; take_front(&mut prepared), Some(5));
+    prepare(&rt, &mut prepared, 6, 1);
 }

@@ -1,32 +1,17 @@
+//! The tables of an engine.
+//!
 //! Each test is a few calls of small functions that hand on what they make: the proof of a function
 //! grows with its exits.
+use super::fixtures::{one, pair, text, with};
 use ring_types::{
     Change, Column, Duplicate, Entry, Gtid, List, Opid, Payload, RegionId, RowRefusal, Schema,
-    Shape, Table, Text, Txn, Value,
+    Shape, Table, Txn, Value,
 };
 use row_engine::Tables;
 use std::process::Abort;
 
 fn same<T: PartialEq + Drop>(rt: &impl Abort, got: T, wanted: T) {
     assert!(rt; got == wanted);
-}
-
-fn with<T: Drop>(rt: &(impl AllocGlobal + Abort), list: List<T>, item: T) -> List<T> {
-    let mut list = list;
-    list.push(item).expect(rt, "memory");
-    list
-}
-
-fn one<T: Drop>(rt: &(impl AllocGlobal + Abort), item: T) -> List<T> {
-    with(rt, List::new(rt.alloc()), item)
-}
-
-fn pair<T: Drop>(rt: &(impl AllocGlobal + Abort), first: T, second: T) -> List<T> {
-    with(rt, one(rt, first), second)
-}
-
-fn text(rt: &(impl AllocGlobal + Abort), of: &str) -> Text {
-    Text::from_string(String::from_str(rt.alloc(), of).expect(rt, "memory"))
 }
 
 fn word(rt: &(impl AllocGlobal + Abort), of: &str) -> Value {
