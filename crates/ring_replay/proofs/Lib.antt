@@ -5,4 +5,5 @@ pub mod Places
 pub mod Law
 pub mod OneMore
 pub mod Held
+pub mod Fit
 pub mod Sent

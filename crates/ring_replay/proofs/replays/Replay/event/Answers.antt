@@ -3,8 +3,12 @@ use Rattle.ring_model.specs.declared.worlds.World.{World}
 use Rattle.ring_replay.specs.Steps.{shown_step}
 use Rattle.ring_replay.proofs.Law.{step_is, known_as}
 use Rattle.ring_replay.proofs.Counts.{line_counts}
+use Rattle.ring_replay.proofs.Fit.{held_fits}
 use Rattle.ring_replay.proofs.Held.{held_on}
 use Rattle.ring_replay.proofs.replays.Replay.event.Goals as goal
+
+pub take_line-requires-clause-fit : goal.take_line-requires-clause-fit
+take_line-requires-clause-fit c = held_fits c.args.ring.now c.args.self.now c.requires.held
 
 pub returns-then-not-knows-clause-known : goal.returns-then-not-knows-clause-known
 returns-then-not-knows-clause-known c = λ w is.
