@@ -8,7 +8,7 @@ use Rattle.ring_types.specs.Rings.{Layout}
 use Rattle.ring_types.specs.Rows.{rows}
 use Rattle.row_engine.specs.Filled.{Filled}
 use Rattle.ring_model.specs.Worlds.{Handle, first_world, shown, shown_node}
-use Rattle.ring_model.specs.Runs.{whole_moves, world}
+use Rattle.ring_model.specs.Runs.{is_known, whole_moves, world}
 use Rattle.ring_model.specs.declared.worlds.Event.{Event}
 use Rattle.ring_model.specs.declared.worlds.Shown.{Shown}
 use Rattle.ring_model.specs.Dispatch.{step}
@@ -58,18 +58,25 @@ pub held_cursors : (ring : Layout) (r : ReplayState) → IsHeld ring r → lengt
 unfolding shown
 held_cursors ring r held = rw held.world (length-map ring.members (λ (m : Member). (world ring (whole_moves held.events)).cursors m.id))
 
--- after an event that is known
+-- an event that is known leads to the world of a longer run
+pub next_known : (ring : Layout) (r : ReplayState) (e : Event) (held : IsHeld ring r) → true ≡ known_among ring r.world.messages e.what
+    → is_known ring (world ring (whole_moves held.events)) e.what ≡ true
+next_known ring r e held known = known_as ring r.world (world ring (whole_moves held.events)) e.what true held.world known
+
+pub next_shown : (ring : Layout) (r : ReplayState) (e : Event) (held : IsHeld ring r) → IsOnce ring → true ≡ known_among ring r.world.messages e.what
+    → shown_step ring r.world e.what ≡ shown ring (world ring (whole_moves (held.events ++ e ∷ [])))
+next_shown ring r e held once known =
+    ap (λ (v : World). shown_step ring v e.what) held.world
+    ∙ (step_is ring (world ring (whole_moves held.events)) e once (next_known ring r e held known) ∙ ap (shown ring) (sym (world_more ring held.events e)))
+
 pub held_on : (ring : Layout) (old new : ReplayState) (e : Event) → IsOnce ring → IsHeld ring old → true ≡ known_among ring old.world.messages e.what
     → new.world ≡ shown_step ring old.world e.what → HasTables ring new → IsHeld ring new
-held_on ring old new e once held known is tables =
-    let w = world ring (whole_moves held.events) in
-    let k = known_as ring old.world w e.what true held.world known in
-    record {
-      events = held.events ++ e ∷ [];
-      runs = one_more ring held.events e held.runs k;
-      world = is ∙ (ap (λ (v : World). shown_step ring v e.what) held.world ∙ (step_is ring w e once k ∙ ap (shown ring) (sym (world_more ring held.events e))));
-      tables = tables;
-    }
+held_on ring old new e once held known is tables = record {
+  events = held.events ++ e ∷ [];
+  runs = one_more ring held.events e held.runs (next_known ring old e held known);
+  world = is ∙ next_shown ring old e held once known;
+  tables = tables;
+}
 
 -- ---- one turn
 some_same : {X : Type 0} (x y : X) → Some x ≡ Some y → x ≡ y

@@ -6,4 +6,5 @@ pub mod Law
 pub mod OneMore
 pub mod Held
 pub mod Fit
+pub mod Grows
 pub mod Sent

@@ -3,7 +3,7 @@ ghost use Rattle.ring_model.specs.Worlds.{WorldState, Whole, Handle, GoDown, Com
 ghost use Rattle.ring_model.specs.Runs.{is_known, is_whole_input};
 ghost use Rattle.ring_model.specs.declared.messages.Message.{Message};
 ghost use Rattle.ring_lawful.specs.EachStep.{IsGood};
-ghost use Rattle.ring_replay.specs.Fit.{IsFitWorld};
+ghost use Rattle.ring_replay.specs.Fit.{IsFitWorld, KeepsChosen};
 ghost use Rattle.ring_replay.specs.Replays.{ReplayState, IsHeld, HasTables, Refuses};
 ghost use Rattle.ring_replay.specs.Turns.{emptied};
 ghost use Rattle.ring_replay.specs.Steps as steps;
@@ -44,7 +44,7 @@ pub struct Replay {
 
 impl Model for Replay {
     ghost use Rattle.ring_lawful.specs.EachStep.{IsGood};
-ghost use Rattle.ring_replay.specs.Fit.{IsFitWorld};
+ghost use Rattle.ring_replay.specs.Fit.{IsFitWorld, KeepsChosen};
 ghost use Rattle.ring_replay.specs.Replays.{ReplayState};
 
     ghost Value = { ReplayState };
@@ -90,6 +90,7 @@ impl Replay {
     fn take_turn(&mut self, alloc: Global, place: usize, turn: Turn) -> Result<(), Memory>
         requires few { self.old.world.events < 2 ^ 64 - 1 }
         requires node { place < length self.old.world.nodes }
+        requires keeps { KeepsChosen self.old.world (steps.shown_turned self.old.world place turn.shown turn.messages turn.says) }
         ensures world { OnOk result (self.new.world ≡ steps.shown_turned self.old.world place turn.shown turn.messages turn.says) }
         ensures tables { OnOk result (self.new.tables ≡ self.old.tables) }
     {
@@ -131,6 +132,7 @@ impl Replay {
         requires few { self.old.world.events < 2 ^ 64 - 1 }
         requires held { HasTables ring.now self.old }
         requires node { place < length self.old.world.nodes }
+        requires keeps { KeepsChosen self.old.world (steps.ended_at self.old.world place step (slice_get self.old.world.nodes place)) }
         ensures world { OnOk result (self.new.world ≡ steps.ended_at self.old.world place step (slice_get self.old.world.nodes place)) }
         ensures held { OnOk result (HasTables ring.now self.new) }
     {
@@ -144,6 +146,7 @@ impl Replay {
         requires few { self.old.world.events < 2 ^ 64 - 1 }
         requires held { HasTables ring.now self.old }
         requires node { place < length self.old.world.nodes }
+        requires keeps { KeepsChosen self.old.world (steps.turn_of ring.now self.old.world place GoDown (slice_get self.old.world.nodes place)) }
         ensures world { OnOk result (self.new.world ≡ steps.turn_of ring.now self.old.world place GoDown (slice_get self.old.world.nodes place)) }
         ensures held { OnOk result (HasTables ring.now self.new) }
     {
@@ -156,6 +159,7 @@ impl Replay {
         requires few { self.old.world.events < 2 ^ 64 - 1 }
         requires held { HasTables ring.now self.old }
         requires node { place < length self.old.world.nodes }
+        requires keeps { KeepsChosen self.old.world (steps.turn_of ring.now self.old.world place ComeUp (slice_get self.old.world.nodes place)) }
         ensures world { OnOk result (self.new.world ≡ steps.turn_of ring.now self.old.world place ComeUp (slice_get self.old.world.nodes place)) }
         ensures held { OnOk result (HasTables ring.now self.new) }
     {
@@ -198,6 +202,7 @@ impl Replay {
         requires held { HasTables ring.now self.old }
         requires fit { IsFitWorld ring.now self.old.world }
         requires good { IsGood ring.now input.now }
+        requires keeps { KeepsChosen self.old.world (steps.turn_of ring.now self.old.world place (Handle input.now) (slice_get self.old.world.nodes place)) }
         ensures world { OnOk result (self.new.world ≡ steps.turn_of ring.now self.old.world place (Handle input.now) (slice_get self.old.world.nodes place)) }
         ensures held { OnOk result (HasTables ring.now self.new) }
     {
@@ -222,6 +227,7 @@ impl Replay {
         requires held { HasTables ring.now self.old }
         requires fit { IsFitWorld ring.now self.old.world }
         requires good { IsGood ring.now input.now }
+        requires keeps { KeepsChosen self.old.world (steps.shown_member_turn ring.now self.old.world id (Handle input.now)) }
         ensures world { OnOk result (self.new.world ≡ steps.shown_member_turn ring.now self.old.world id (Handle input.now)) }
         ensures held { OnOk result (HasTables ring.now self.new) }
     {
@@ -237,6 +243,7 @@ impl Replay {
     fn crash(&mut self, alloc: Global, ring: &Ring, id: NodeId) -> Result<(), Memory>
         requires few { self.old.world.events < 2 ^ 64 - 1 }
         requires held { HasTables ring.now self.old }
+        requires keeps { KeepsChosen self.old.world (steps.shown_member_turn ring.now self.old.world id GoDown) }
         ensures world { OnOk result (self.new.world ≡ steps.shown_member_turn ring.now self.old.world id GoDown) }
         ensures held { OnOk result (HasTables ring.now self.new) }
     {
@@ -252,6 +259,7 @@ impl Replay {
     fn restart(&mut self, alloc: Global, ring: &Ring, id: NodeId) -> Result<(), Memory>
         requires few { self.old.world.events < 2 ^ 64 - 1 }
         requires held { HasTables ring.now self.old }
+        requires keeps { KeepsChosen self.old.world (steps.shown_member_turn ring.now self.old.world id ComeUp) }
         ensures world { OnOk result (self.new.world ≡ steps.shown_member_turn ring.now self.old.world id ComeUp) }
         ensures held { OnOk result (HasTables ring.now self.new) }
     {
@@ -270,6 +278,7 @@ impl Replay {
         requires few { self.old.world.events < 2 ^ 64 - 1 }
         requires held { HasTables ring.now self.old }
         requires fit { IsFitWorld ring.now self.old.world }
+        requires keeps { KeepsChosen self.old.world (steps.shown_given ring.now self.old.world (message_at self.old.world.messages number)) }
         ensures world { OnOk result (self.new.world ≡ steps.shown_given ring.now self.old.world (message_at self.old.world.messages number)) }
         ensures held { OnOk result (HasTables ring.now self.new) }
     {
@@ -311,6 +320,7 @@ impl Replay {
         ensures events { self.new.world.events ≡ self.old.world.events }
         ensures nodes { self.new.world.nodes ≡ self.old.world.nodes }
         ensures messages { self.new.world.messages ≡ self.old.world.messages }
+        ensures chosen { self.new.world.chosen ≡ self.old.world.chosen }
         ensures tables { self.new.tables ≡ self.old.tables }
     {
         if let Some(place) = place_of(ring, id)
@@ -324,6 +334,7 @@ impl Replay {
         requires few { self.old.world.events < 2 ^ 64 - 1 }
         requires held { HasTables ring.now self.old }
         requires fit { IsFitWorld ring.now self.old.world }
+        requires keeps { KeepsChosen self.old.world (steps.shown_next_given ring.now self.old.world id (steps.shown_next_to ring.now self.old.world id)) }
         ensures world { OnOk result (self.new.world ≡ steps.shown_next_given ring.now self.old.world id (steps.shown_next_to ring.now self.old.world id)) }
         ensures held { OnOk result (HasTables ring.now self.new) }
     {
@@ -364,6 +375,7 @@ impl Replay {
         requires held { HasTables ring.now self.old }
         requires fit { IsFitWorld ring.now self.old.world }
         requires whole { is_whole_input input.now ≡ true }
+        requires keeps { KeepsChosen self.old.world (steps.shown_at_node ring.now self.old.world id input.now) }
         ensures world { OnOk result (self.new.world ≡ steps.shown_at_node ring.now self.old.world id input.now) }
         ensures held { OnOk result (HasTables ring.now self.new) }
     {
@@ -382,6 +394,7 @@ impl Replay {
         requires held { HasTables ring.now self.old }
         requires fit { IsFitWorld ring.now self.old.world }
         requires known { steps.known_among ring.now self.old.world.messages line.now ≡ true }
+        requires keeps { KeepsChosen self.old.world (steps.shown_step ring.now self.old.world line.now) }
         ensures world { OnOk result (self.new.world ≡ steps.shown_step ring.now self.old.world line.now) }
         ensures held { OnOk result (HasTables ring.now self.new) }
     {

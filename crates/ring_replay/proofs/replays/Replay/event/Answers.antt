@@ -4,11 +4,16 @@ use Rattle.ring_replay.specs.Steps.{shown_step}
 use Rattle.ring_replay.proofs.Law.{step_is, known_as}
 use Rattle.ring_replay.proofs.Counts.{line_counts}
 use Rattle.ring_replay.proofs.Fit.{held_fits}
+use Rattle.ring_replay.proofs.Grows.{event_keeps}
 use Rattle.ring_replay.proofs.Held.{held_on}
 use Rattle.ring_replay.proofs.replays.Replay.event.Goals as goal
 
 pub take_line-requires-clause-fit : goal.take_line-requires-clause-fit
 take_line-requires-clause-fit c = held_fits c.args.ring.now c.args.self.now c.requires.held
+
+pub take_line-requires-clause-keeps : goal.take_line-requires-clause-keeps
+take_line-requires-clause-keeps c =
+    event_keeps c.args.ring.now c.args.self.now c.args.event.now c.law_built.ensures c.requires.held (sym c.if-not-knows.false ∙ c.knows.ensures)
 
 pub returns-then-not-knows-clause-known : goal.returns-then-not-knows-clause-known
 returns-then-not-knows-clause-known c = λ w is.
