@@ -1,5 +1,5 @@
--- A replay is one of its ring: at the beginning, and after a turn.
-use Rattle.std.proofs.Common.{◌≡◌, ℕ, zero, suc, ◌<◌, List, [], ◌∷◌, length, map, Option, None, Some, option_map, refl, subst, ap, sym, ◌∙◌}
+-- A replay is one of its ring: at the beginning, after a turn, and so after each event, since the step of the shown world is the model's.
+use Rattle.std.proofs.Common.{◌≡◌, ℕ, zero, suc, ◌<◌, true, List, [], ◌∷◌, ◌++◌, length, map, Option, None, Some, option_map, refl, subst, ap, sym, ◌∙◌}
 use Rattle.std.specs.Prelude.{slice_get, slice_set, OnOk, Result, Ok, Err}
 use Rattle.std.proofs.lemmas.List.{length-map, map-set, set-set}
 use Rattle.std.proofs.lemmas.Option.{slice_get-map, slice_get_within}
@@ -8,6 +8,8 @@ use Rattle.ring_types.specs.Rings.{Layout}
 use Rattle.ring_types.specs.Rows.{rows}
 use Rattle.row_engine.specs.Filled.{Filled}
 use Rattle.ring_model.specs.Worlds.{Handle, first_world, shown, shown_node}
+use Rattle.ring_model.specs.Runs.{is_known, whole_moves, world}
+use Rattle.ring_model.specs.declared.worlds.Event.{Event}
 use Rattle.ring_model.specs.declared.worlds.Shown.{Shown}
 use Rattle.ring_model.specs.Dispatch.{step}
 use Rattle.ring_model.specs.declared.nodes.Soft.{Soft}
@@ -16,10 +18,12 @@ use Rattle.ring_model.specs.declared.effects.Say.{Say}
 use Rattle.ring_model.specs.declared.messages.Message.{Message}
 use Rattle.ring_model.specs.declared.messages.Input.{Input}
 use Rattle.ring_model.specs.declared.worlds.World.{World}
-use Rattle.ring_replay.specs.Steps.{nobody, shown_turned, shown_passed, shown_ended, shown_handled, ended_at, turn_of, answered}
+use Rattle.ring_replay.specs.Steps.{nobody, shown_turned, shown_passed, shown_ended, shown_handled, shown_step, ended_at, turn_of, answered, known_among}
 use Rattle.ring_replay.specs.Turns.{emptied}
 use Rattle.ring_replay.specs.declared.turns.Turn.{Turn}
 use Rattle.ring_replay.specs.Replays.{ReplayState, IsHeld, HasTables, tables_of, empty_filled}
+use Rattle.ring_replay.proofs.Law.{IsOnce, known_as, step_is}
+use Rattle.ring_replay.proofs.OneMore.{one_more, world_more}
 
 map_of_map : {X Y Z : Type 0} (f : X → Y) (g : Y → Z) (xs : List X) → map g (map f xs) ≡ map (λ x. g (f x)) xs
 map_of_map f g [] = refl
@@ -35,11 +39,43 @@ first_tables ring (m ∷ ms) = let a = first_rows ring m in let b = first_tables
 
 -- at the beginning
 pub first_held : (ring : Layout) (r : ReplayState) → r.world ≡ shown ring first_world → r.tables ≡ map (λ (m : Member). empty_filled ring.schema) ring.members → IsHeld ring r
+unfolding shown world
+first_held ring r is tables = record {
+  events = [];
+  runs = tt;
+  world = is;
+  tables = rw is (tables ∙ first_tables ring ring.members);
+}
+
+-- ---- a replay that is held
+-- its nodes are those of the members, in ring order
+pub held_nodes : (ring : Layout) (r : ReplayState) → IsHeld ring r → map (λ (s : Shown). s.node) r.world.nodes ≡ map (λ (m : Member). m.id) ring.members
 unfolding shown
-first_held ring r world tables = record {
-  nodes = rw world (map_of_map (shown_node first_world) (λ (s : Shown). s.node) ring.members);
-  cursors = rw world (length-map ring.members (λ (m : Member). first_world.cursors m.id));
-  tables = rw world (tables ∙ first_tables ring ring.members);
+held_nodes ring r held = rw held.world (map_of_map (shown_node (world ring (whole_moves held.events))) (λ (s : Shown). s.node) ring.members)
+
+-- and so are its cursors
+pub held_cursors : (ring : Layout) (r : ReplayState) → IsHeld ring r → length r.world.cursors ≡ length ring.members
+unfolding shown
+held_cursors ring r held = rw held.world (length-map ring.members (λ (m : Member). (world ring (whole_moves held.events)).cursors m.id))
+
+-- an event that is known leads to the world of a longer run
+pub next_known : (ring : Layout) (r : ReplayState) (e : Event) (held : IsHeld ring r) → true ≡ known_among ring r.world.messages e.what
+    → is_known ring (world ring (whole_moves held.events)) e.what ≡ true
+next_known ring r e held known = known_as ring r.world (world ring (whole_moves held.events)) e.what true held.world known
+
+pub next_shown : (ring : Layout) (r : ReplayState) (e : Event) (held : IsHeld ring r) → IsOnce ring → true ≡ known_among ring r.world.messages e.what
+    → shown_step ring r.world e.what ≡ shown ring (world ring (whole_moves (held.events ++ e ∷ [])))
+next_shown ring r e held once known =
+    ap (λ (v : World). shown_step ring v e.what) held.world
+    ∙ (step_is ring (world ring (whole_moves held.events)) e once (next_known ring r e held known) ∙ ap (shown ring) (sym (world_more ring held.events e)))
+
+pub held_on : (ring : Layout) (old new : ReplayState) (e : Event) → IsOnce ring → IsHeld ring old → true ≡ known_among ring old.world.messages e.what
+    → new.world ≡ shown_step ring old.world e.what → HasTables ring new → IsHeld ring new
+held_on ring old new e once held known is tables = record {
+  events = held.events ++ e ∷ [];
+  runs = one_more ring held.events e held.runs (next_known ring old e held known);
+  world = is ∙ next_shown ring old e held once known;
+  tables = tables;
 }
 
 -- ---- one turn

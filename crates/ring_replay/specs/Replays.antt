@@ -1,11 +1,13 @@
 -- A replay: the world as it is shown, and beside each node the tables of its engine.
-use Rattle.std.specs.Prelude.{◌≡◌, Bool, true, false, List, length, map, Result, Ok, Err}
-use Rattle.ring_types.specs.declared.members.Member.{Member}
+use Rattle.std.specs.Prelude.{◌≡◌, Bool, true, false, List, map, Result, Ok, Err}
 use Rattle.ring_types.specs.Rings.{Layout}
 use Rattle.ring_types.specs.declared.schemas.Schema.{Schema}
 use Rattle.ring_types.specs.Rows.{empty_tables}
 use Rattle.row_engine.specs.Filled.{Filled}
 use Rattle.commit_pipeline.specs.Engines.{engine_tables}
+use Rattle.ring_model.specs.Runs.{IsRun, whole_moves, world}
+use Rattle.ring_model.specs.Worlds.{shown}
+use Rattle.ring_model.specs.declared.worlds.Event.{Event}
 use Rattle.ring_model.specs.declared.worlds.Shown.{Shown}
 use Rattle.ring_model.specs.declared.worlds.World.{World}
 use Rattle.ring_replay.specs.declared.replays.EventError.{EventError}
@@ -25,10 +27,11 @@ tables_of ring s = engine_tables ring s.durable
 abbrev pub HasTables : Layout → ReplayState → Type 0
 HasTables ring r = r.tables ≡ map (tables_of ring) r.world.nodes
 
--- the replay is one of this ring: its nodes and cursors are those of the members, in ring order, and the tables are those of each node's engine
+-- the replay is one of this ring: it shows the world after events of the ring that all went to their end, and the tables are those of each node's engine
 pub record IsHeld (ring : Layout) (r : ReplayState) : Type 0 where
-  pub nodes : map (λ (s : Shown). s.node) r.world.nodes ≡ map (λ (m : Member). m.id) ring.members
-  pub cursors : length r.world.cursors ≡ length ring.members
+  pub events : List Event
+  pub runs : IsRun ring (whole_moves events)
+  pub world : r.world ≡ shown ring (world ring (whole_moves events))
   pub tables : r.tables ≡ map (tables_of ring) r.world.nodes
 
 -- an event is refused exactly where its node or its message is not known

@@ -1,7 +1,9 @@
-ghost use Rattle.std.specs.Prelude.{◌≡◌, ℕ, ◌+◌, ◌-◌, ◌^◌, ◌<◌, IfOk, OnOk, Err, Some, length, slice_get};
+ghost use Rattle.std.specs.Prelude.{◌≡◌, ℕ, ◌+◌, ◌-◌, ◌^◌, ◌<◌, true, IfOk, OnOk, Err, Some, length, slice_get};
 ghost use Rattle.ring_model.specs.Worlds.{WorldState, Whole, Handle, GoDown, ComeUp, world_step, first_world, shown, message_at, next_from};
-ghost use Rattle.ring_model.specs.Runs.{is_known};
+ghost use Rattle.ring_model.specs.Runs.{is_known, is_whole_input};
 ghost use Rattle.ring_model.specs.declared.messages.Message.{Message};
+ghost use Rattle.ring_lawful.specs.EachStep.{IsGood};
+ghost use Rattle.ring_replay.specs.Fit.{IsFitWorld, KeepsChosen};
 ghost use Rattle.ring_replay.specs.Replays.{ReplayState, IsHeld, HasTables, Refuses};
 ghost use Rattle.ring_replay.specs.Turns.{emptied};
 ghost use Rattle.ring_replay.specs.Steps as steps;
@@ -41,7 +43,9 @@ pub struct Replay {
 }
 
 impl Model for Replay {
-    ghost use Rattle.ring_replay.specs.Replays.{ReplayState};
+    ghost use Rattle.ring_lawful.specs.EachStep.{IsGood};
+ghost use Rattle.ring_replay.specs.Fit.{IsFitWorld, KeepsChosen};
+ghost use Rattle.ring_replay.specs.Replays.{ReplayState};
 
     ghost Value = { ReplayState };
 
@@ -86,6 +90,7 @@ impl Replay {
     fn take_turn(&mut self, alloc: Global, place: usize, turn: Turn) -> Result<(), Memory>
         requires few { self.old.world.events < 2 ^ 64 - 1 }
         requires node { place < length self.old.world.nodes }
+        requires keeps { KeepsChosen self.old.world (steps.shown_turned self.old.world place turn.shown turn.messages turn.says) }
         ensures world { OnOk result (self.new.world ≡ steps.shown_turned self.old.world place turn.shown turn.messages turn.says) }
         ensures tables { OnOk result (self.new.tables ≡ self.old.tables) }
     {
@@ -127,6 +132,7 @@ impl Replay {
         requires few { self.old.world.events < 2 ^ 64 - 1 }
         requires held { HasTables ring.now self.old }
         requires node { place < length self.old.world.nodes }
+        requires keeps { KeepsChosen self.old.world (steps.ended_at self.old.world place step (slice_get self.old.world.nodes place)) }
         ensures world { OnOk result (self.new.world ≡ steps.ended_at self.old.world place step (slice_get self.old.world.nodes place)) }
         ensures held { OnOk result (HasTables ring.now self.new) }
     {
@@ -140,6 +146,7 @@ impl Replay {
         requires few { self.old.world.events < 2 ^ 64 - 1 }
         requires held { HasTables ring.now self.old }
         requires node { place < length self.old.world.nodes }
+        requires keeps { KeepsChosen self.old.world (steps.turn_of ring.now self.old.world place GoDown (slice_get self.old.world.nodes place)) }
         ensures world { OnOk result (self.new.world ≡ steps.turn_of ring.now self.old.world place GoDown (slice_get self.old.world.nodes place)) }
         ensures held { OnOk result (HasTables ring.now self.new) }
     {
@@ -152,6 +159,7 @@ impl Replay {
         requires few { self.old.world.events < 2 ^ 64 - 1 }
         requires held { HasTables ring.now self.old }
         requires node { place < length self.old.world.nodes }
+        requires keeps { KeepsChosen self.old.world (steps.turn_of ring.now self.old.world place ComeUp (slice_get self.old.world.nodes place)) }
         ensures world { OnOk result (self.new.world ≡ steps.turn_of ring.now self.old.world place ComeUp (slice_get self.old.world.nodes place)) }
         ensures held { OnOk result (HasTables ring.now self.new) }
     {
@@ -160,7 +168,7 @@ impl Replay {
         self.take_turn(alloc, place, turn)
     }
 
-    #[tactic(auto, using(crate::proofs::Held::rows_at, crate::proofs::Held::rows_there))]
+    #[tactic(auto, using(crate::proofs::Held::rows_at, crate::proofs::Held::rows_there, crate::proofs::Fit::fit_at))]
     fn answer_at(
         &self,
         alloc: Global,
@@ -169,6 +177,8 @@ impl Replay {
         input: &Input,
     ) -> Result<Option<Step>, Memory>
         requires held { HasTables ring.now self.now }
+        requires fit { IsFitWorld ring.now self.now.world }
+        requires good { IsGood ring.now input.now }
         ensures { IfOk result (λ it. it ≡ steps.answered ring.now input.now (slice_get self.now.world.nodes place)) }
     {
         match self.nodes.get(place) {
@@ -190,6 +200,9 @@ impl Replay {
     ) -> Result<(), Memory>
         requires few { self.old.world.events < 2 ^ 64 - 1 }
         requires held { HasTables ring.now self.old }
+        requires fit { IsFitWorld ring.now self.old.world }
+        requires good { IsGood ring.now input.now }
+        requires keeps { KeepsChosen self.old.world (steps.turn_of ring.now self.old.world place (Handle input.now) (slice_get self.old.world.nodes place)) }
         ensures world { OnOk result (self.new.world ≡ steps.turn_of ring.now self.old.world place (Handle input.now) (slice_get self.old.world.nodes place)) }
         ensures held { OnOk result (HasTables ring.now self.new) }
     {
@@ -212,6 +225,9 @@ impl Replay {
     ) -> Result<(), Memory>
         requires few { self.old.world.events < 2 ^ 64 - 1 }
         requires held { HasTables ring.now self.old }
+        requires fit { IsFitWorld ring.now self.old.world }
+        requires good { IsGood ring.now input.now }
+        requires keeps { KeepsChosen self.old.world (steps.shown_member_turn ring.now self.old.world id (Handle input.now)) }
         ensures world { OnOk result (self.new.world ≡ steps.shown_member_turn ring.now self.old.world id (Handle input.now)) }
         ensures held { OnOk result (HasTables ring.now self.new) }
     {
@@ -227,6 +243,7 @@ impl Replay {
     fn crash(&mut self, alloc: Global, ring: &Ring, id: NodeId) -> Result<(), Memory>
         requires few { self.old.world.events < 2 ^ 64 - 1 }
         requires held { HasTables ring.now self.old }
+        requires keeps { KeepsChosen self.old.world (steps.shown_member_turn ring.now self.old.world id GoDown) }
         ensures world { OnOk result (self.new.world ≡ steps.shown_member_turn ring.now self.old.world id GoDown) }
         ensures held { OnOk result (HasTables ring.now self.new) }
     {
@@ -242,6 +259,7 @@ impl Replay {
     fn restart(&mut self, alloc: Global, ring: &Ring, id: NodeId) -> Result<(), Memory>
         requires few { self.old.world.events < 2 ^ 64 - 1 }
         requires held { HasTables ring.now self.old }
+        requires keeps { KeepsChosen self.old.world (steps.shown_member_turn ring.now self.old.world id ComeUp) }
         ensures world { OnOk result (self.new.world ≡ steps.shown_member_turn ring.now self.old.world id ComeUp) }
         ensures held { OnOk result (HasTables ring.now self.new) }
     {
@@ -255,9 +273,12 @@ impl Replay {
     }
 
     /// Gives the message of a number to its receiver.
+    #[tactic(auto, using(crate::proofs::Fit::sent_is_good))]
     fn give(&mut self, alloc: Global, ring: &Ring, number: u64) -> Result<(), Memory>
         requires few { self.old.world.events < 2 ^ 64 - 1 }
         requires held { HasTables ring.now self.old }
+        requires fit { IsFitWorld ring.now self.old.world }
+        requires keeps { KeepsChosen self.old.world (steps.shown_given ring.now self.old.world (message_at self.old.world.messages number)) }
         ensures world { OnOk result (self.new.world ≡ steps.shown_given ring.now self.old.world (message_at self.old.world.messages number)) }
         ensures held { OnOk result (HasTables ring.now self.new) }
     {
@@ -299,6 +320,7 @@ impl Replay {
         ensures events { self.new.world.events ≡ self.old.world.events }
         ensures nodes { self.new.world.nodes ≡ self.old.world.nodes }
         ensures messages { self.new.world.messages ≡ self.old.world.messages }
+        ensures chosen { self.new.world.chosen ≡ self.old.world.chosen }
         ensures tables { self.new.tables ≡ self.old.tables }
     {
         if let Some(place) = place_of(ring, id)
@@ -311,6 +333,8 @@ impl Replay {
     fn give_next(&mut self, alloc: Global, ring: &Ring, id: NodeId) -> Result<(), Memory>
         requires few { self.old.world.events < 2 ^ 64 - 1 }
         requires held { HasTables ring.now self.old }
+        requires fit { IsFitWorld ring.now self.old.world }
+        requires keeps { KeepsChosen self.old.world (steps.shown_next_given ring.now self.old.world id (steps.shown_next_to ring.now self.old.world id)) }
         ensures world { OnOk result (self.new.world ≡ steps.shown_next_given ring.now self.old.world id (steps.shown_next_to ring.now self.old.world id)) }
         ensures held { OnOk result (HasTables ring.now self.new) }
     {
@@ -339,6 +363,7 @@ impl Replay {
     }
 
     /// Messages are given from the list alone.
+    #[tactic(auto, using(crate::proofs::Fit::whole_is_good))]
     fn give_input(
         &mut self,
         alloc: Global,
@@ -348,6 +373,9 @@ impl Replay {
     ) -> Result<(), Memory>
         requires few { self.old.world.events < 2 ^ 64 - 1 }
         requires held { HasTables ring.now self.old }
+        requires fit { IsFitWorld ring.now self.old.world }
+        requires whole { is_whole_input input.now ≡ true }
+        requires keeps { KeepsChosen self.old.world (steps.shown_at_node ring.now self.old.world id input.now) }
         ensures world { OnOk result (self.new.world ≡ steps.shown_at_node ring.now self.old.world id input.now) }
         ensures held { OnOk result (HasTables ring.now self.new) }
     {
@@ -360,10 +388,13 @@ impl Replay {
         }
     }
 
-    #[tactic(auto, unfolding(crate::specs::Steps::shown_step))]
+    #[tactic(auto, unfolding(crate::specs::Steps::shown_step), using(ring_types::proofs::Booleans::both_true))]
     fn take_line(&mut self, alloc: Global, ring: &Ring, line: &Line) -> Result<(), Memory>
         requires few { self.old.world.events < 2 ^ 64 - 1 }
         requires held { HasTables ring.now self.old }
+        requires fit { IsFitWorld ring.now self.old.world }
+        requires known { steps.known_among ring.now self.old.world.messages line.now ≡ true }
+        requires keeps { KeepsChosen self.old.world (steps.shown_step ring.now self.old.world line.now) }
         ensures world { OnOk result (self.new.world ≡ steps.shown_step ring.now self.old.world line.now) }
         ensures held { OnOk result (HasTables ring.now self.new) }
     {

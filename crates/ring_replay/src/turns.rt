@@ -6,6 +6,8 @@ ghost use Rattle.ring_model.specs.Nodes as nodes;
 ghost use Rattle.ring_model.specs.Dispatch as dispatch;
 ghost use Rattle.ring_model.specs.declared.nodes.Soft.{Soft};
 ghost use Rattle.commit_pipeline.specs.Engines.{engine_tables};
+ghost use Rattle.ring_lawful.specs.EachStep.{IsGood};
+ghost use Rattle.ring_replay.specs.Fit.{IsFitShown};
 ghost use Rattle.ring_replay.specs.Steps.{ended_node, downed_node, restarted_node};
 ghost use Rattle.ring_replay.specs.Turns.{turned_to, quiet_turn};
 
@@ -32,7 +34,9 @@ pub(crate) fn answer(
     rows: &Tables,
     input: &Input,
 ) -> Result<Option<Step>, Memory>
-    requires { rows.now ≡ engine_tables ring.now shown.now.durable }
+    requires rows { rows.now ≡ engine_tables ring.now shown.now.durable }
+    requires fit { IsFitShown ring.now shown.now }
+    requires good { IsGood ring.now input.now }
     ensures { IfOk result (λ it. it ≡ option_map (λ (s : Soft). dispatch.step ring.now shown.now.node shown.now.durable s input.now) shown.now.soft) }
 {
     match &shown.soft {

@@ -2,8 +2,18 @@ use Rattle.std.proofs.Common.{true, false, ap, sym, ◌∙◌, add-one}
 use Rattle.ring_model.specs.declared.worlds.World.{World}
 use Rattle.ring_replay.specs.Steps.{shown_step}
 use Rattle.ring_replay.proofs.Law.{step_is, known_as}
-use Rattle.ring_replay.proofs.Shapes.{line_shape}
+use Rattle.ring_replay.proofs.Counts.{line_counts}
+use Rattle.ring_replay.proofs.Fit.{held_fits}
+use Rattle.ring_replay.proofs.Grows.{event_keeps}
+use Rattle.ring_replay.proofs.Held.{held_on}
 use Rattle.ring_replay.proofs.replays.Replay.event.Goals as goal
+
+pub take_line-requires-clause-fit : goal.take_line-requires-clause-fit
+take_line-requires-clause-fit c = held_fits c.args.ring.now c.args.self.now c.requires.held
+
+pub take_line-requires-clause-keeps : goal.take_line-requires-clause-keeps
+take_line-requires-clause-keeps c =
+    event_keeps c.args.ring.now c.args.self.now c.args.event.now c.law_built.ensures c.requires.held (sym c.if-not-knows.false ∙ c.knows.ensures)
 
 pub returns-then-not-knows-clause-known : goal.returns-then-not-knows-clause-known
 returns-then-not-knows-clause-known c = λ w is.
@@ -22,14 +32,8 @@ returns-in-Ok-clause-world c = λ w is.
 
 pub returns-in-Ok-clause-held : goal.returns-in-Ok-clause-held
 returns-in-Ok-clause-held c =
-    let s = line_shape c.args.ring.now c.args.self.now.world c.args.event.now.what in
-    let e = c.in-Ok.ensures.world in
-    record {
-      nodes = rw e (s.nodes ∙ c.requires.held.nodes);
-      cursors = rw e (s.cursors ∙ c.requires.held.cursors);
-      tables = c.in-Ok.ensures.held;
-    }
+    held_on c.args.ring.now c.args.self.now c.take_line.new.self c.args.event.now c.law_built.ensures.numbers_once c.requires.held
+    (sym c.if-not-knows.false ∙ c.knows.ensures) c.in-Ok.ensures.world c.in-Ok.ensures.held
 
 pub returns-in-Ok-clause-count : goal.returns-in-Ok-clause-count
-returns-in-Ok-clause-count c =
-    rw (c.in-Ok.ensures.world, add-one) (line_shape c.args.ring.now c.args.self.now.world c.args.event.now.what).events
+returns-in-Ok-clause-count c = rw (c.in-Ok.ensures.world, add-one) (line_counts c.args.ring.now c.args.self.now.world c.args.event.now.what)

@@ -1,8 +1,16 @@
-use Rattle.std.proofs.Common.{ap}
+use Rattle.std.proofs.Common.{ap, refl}
+use Rattle.ring_model.specs.Worlds.{GoDown}
 use Rattle.ring_replay.specs.Replays.{tables_of}
 use Rattle.ring_replay.specs.declared.turns.Turn.{Turn}
+use Rattle.ring_replay.specs.Steps.{downed_node}
+use Rattle.ring_replay.proofs.Grows.{quiet_keeps}
 use Rattle.ring_replay.proofs.Held.{kept_turn}
 use Rattle.ring_replay.proofs.replays.Replay.go_down.Goals as goal
+
+pub take_turn-requires-clause-keeps : goal.take_turn-requires-clause-keeps
+take_turn-requires-clause-keeps c =
+    let out = c.take_out-shown in
+    quiet_keeps c.args.ring.now c.args.self.now.world out.new.self.world c.args.place out.result (downed_node out.result) c.downed.result GoDown out.ensures.shown out.ensures.rest c.downed.ensures refl c.requires.keeps
 
 pub returns-clause-held : goal.returns-clause-held
 returns-clause-held c =
