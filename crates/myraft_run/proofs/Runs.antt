@@ -6,6 +6,7 @@ use Rattle.ring_model.specs.Worlds.{Whole, WorldState, first_world, world_step}
 use Rattle.ring_model.specs.Runs.{IsRun, IsRunFrom, Move, is_known, whole_moves, world, world_from}
 use Rattle.ring_model.specs.declared.worlds.Event.{Event}
 use Rattle.ring_model.proofs.Lists.{in_cons}
+use Rattle.ring_replay.proofs.OneMore.{moves_join}
 use Rattle.myraft_run.specs.Replays.{IsRunOf, Refuses}
 
 prefix-from : (ring : Layout) (w : WorldState) (before after : List Move) → IsRunFrom ring w (before ++ after) → IsRunFrom ring w before
@@ -28,10 +29,6 @@ moves-of (m ∷ run) whole =
 pub is-whole : (ring : Layout) (events : List Event) (run : List Move) → IsRunOf ring events run → run ≡ whole_moves events
 is-whole ring events run x = moves-of run x.all_whole ∙ ap whole_moves x.of_events
 
-moves-split : (a b : List Event) → whole_moves (a ++ b) ≡ whole_moves a ++ whole_moves b
-moves-split [] b = refl
-moves-split (e ∷ a) b = ap (λ (ms : List Move). record { event = e; completion = Whole } ∷ ms) (moves-split a b)
-
 suffix-from : (ring : Layout) (w : WorldState) (a b : List Move) → IsRunFrom ring w (a ++ b) → IsRunFrom ring (world_from ring w a) b
 suffix-from ring w [] b h = h
 suffix-from ring w (m ∷ a) b h = suffix-from ring (world_step ring w m.event m.completion) a b h.2
@@ -40,7 +37,7 @@ known-at : (ring : Layout) (before : List Event) (e : Event) (after : List Event
 unfolding world
 known-at ring before e after h =
     let P : List Move → Type 0 = λ r. IsRun ring r in
-    (suffix-from ring first_world (whole_moves before) (whole_moves (e ∷ after)) (subst P (moves-split before (e ∷ after)) h)).0
+    (suffix-from ring first_world (whole_moves before) (whole_moves (e ∷ after)) (subst P (moves_join before (e ∷ after)) h)).0
 
 -- events that are a run are not refused
 pub never-refused : (ring : Layout) (events : List Event) (run : List Move) (line : ℕ) → IsRunOf ring events run → Refuses ring events line → true ≡ false

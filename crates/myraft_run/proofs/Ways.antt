@@ -5,10 +5,11 @@ use Rattle.std.proofs.lemmas.List.{append-nil}
 use Rattle.std.specs.List.{Contains}
 use Rattle.ring_types.specs.Rings.{Layout}
 use Rattle.ring_model.specs.Worlds.{Whole, WorldState, first_world, shown, world_step}
-use Rattle.ring_model.specs.Runs.{IsRun, IsRunFrom, Move, is_known, whole_moves, world, world_from}
+use Rattle.ring_model.specs.Runs.{IsRun, Move, is_known, whole_moves, world}
 use Rattle.ring_model.specs.declared.worlds.Event.{Event}
 use Rattle.ring_model.specs.declared.worlds.World.{World}
 use Rattle.ring_model.proofs.Lists.{map_of}
+use Rattle.ring_replay.proofs.OneMore.{one_more, world_more}
 use Rattle.report_text.specs.Report.{report}
 use Rattle.myraft_run.specs.declared.stops.Stop.{Stop}
 use Rattle.myraft_run.specs.declared.stops.Stop.TheVariants as stop
@@ -17,18 +18,6 @@ use Rattle.myraft_run.specs.Replays.{IsRunOf, Refuses, Replays}
 use Rattle.myraft_run.specs.Parts.{Takes}
 
 -- ---- runs of whole moves
-moves_join : (a b : List Event) → whole_moves (a ++ b) ≡ whole_moves a ++ whole_moves b
-moves_join [] b = refl
-moves_join (e ∷ a) b = ap (λ (ms : List Move). record { event = e; completion = Whole } ∷ ms) (moves_join a b)
-
-pub world_on : (ring : Layout) (w : WorldState) (a b : List Move) → world_from ring w (a ++ b) ≡ world_from ring (world_from ring w a) b
-world_on ring w [] b = refl
-world_on ring w (m ∷ a) b = world_on ring (world_step ring w m.event m.completion) a b
-
-run_on : (ring : Layout) (w : WorldState) (a b : List Move) → IsRunFrom ring w a → IsRunFrom ring (world_from ring w a) b → IsRunFrom ring w (a ++ b)
-run_on ring w [] b x y = y
-run_on ring w (m ∷ a) b x y = (x.0, x.1, run_on ring (world_step ring w m.event m.completion) a b x.2 y)
-
 events_of_moves : (events : List Event) → map (λ (m : Move). m.event) (whole_moves events) ≡ events
 events_of_moves [] = refl
 events_of_moves (e ∷ events) = ap (λ (es : List Event). e ∷ es) (events_of_moves events)
@@ -46,14 +35,6 @@ pub record OnTheWay (ring : Layout) (events : List Event) (taken : ℕ) (now : W
   pub split : events ≡ before ++ drop taken events
   pub is_run : IsRun ring (whole_moves before)
   pub is_shown : now ≡ shown ring (world ring (whole_moves before))
-
-one_more : (ring : Layout) (before : List Event) (e : Event) → IsRun ring (whole_moves before) → is_known ring (world ring (whole_moves before)) e.what ≡ true → IsRun ring (whole_moves (before ++ e ∷ []))
-unfolding world
-one_more ring before e is known = subst (IsRun ring) (sym (moves_join before (e ∷ []))) (run_on ring first_world (whole_moves before) (whole_moves (e ∷ [])) is (known, tt, tt))
-
-world_more : (ring : Layout) (before : List Event) (e : Event) → world ring (whole_moves (before ++ e ∷ [])) ≡ world_step ring (world ring (whole_moves before)) e Whole
-unfolding world
-world_more ring before e = ap (world_from ring first_world) (moves_join before (e ∷ [])) ∙ world_on ring first_world (whole_moves before) (whole_moves (e ∷ []))
 
 pub way-first : (ring : Layout) (events : List Event) (now : World) → now ≡ shown ring first_world → OnTheWay ring events 0 now
 unfolding world

@@ -43,9 +43,7 @@ pub struct Replay {
 }
 
 impl Model for Replay {
-    ghost use Rattle.ring_lawful.specs.EachStep.{IsGood};
-ghost use Rattle.ring_replay.specs.Fit.{IsFitWorld, KeepsChosen};
-ghost use Rattle.ring_replay.specs.Replays.{ReplayState};
+    ghost use Rattle.ring_replay.specs.Replays.{ReplayState};
 
     ghost Value = { ReplayState };
 
