@@ -339,5 +339,9 @@ impl Disk for MemoryDisk {
         self.call_sync(file)
     }
 
-    fn changed(&mut self) {}
+    /// Does nothing: this disk tells its content, so no caller that knows no more than the trait may
+    /// report it.
+    fn changed(&mut self)
+        ensures same { self.new ≡ self.old }
+    {}
 }

@@ -44,7 +44,8 @@ moved_counts v number (Some place) = refl
 
 next_counts : (ring : Layout) (v : World) (id : ℕ) (o : Option ℕ) → (shown_next_given ring v id o).events ≡ suc v.events
 next_counts ring v id None = refl
-next_counts ring v id (Some number) = given_counts ring (shown_moved ring v id number) (message_at v.messages number) ∙ ap suc (moved_counts v number (place_of ring id))
+next_counts ring v id (Some number) =
+    given_counts ring (shown_moved ring v id number) (message_at v.messages number) ∙ ap suc (moved_counts v number (place_of ring id))
 
 skipped_counts : (ring : Layout) (v : World) (id : ℕ) (o : Option ℕ) → (shown_skipped ring v id o).events ≡ suc v.events
 skipped_counts ring v id None = refl

@@ -1,5 +1,5 @@
 -- A held replay shows the world after a run, so what the laws of runs say of that world's nodes and messages holds of what it shows.
-use Rattle.std.proofs.Common.{◌≡◌, ℕ, ◌≤◌, ◌&&◌, Bool, true, false, List, length, map, Option, None, Some, IfSome, option_map, refl, subst, sym, ap, ◌∙◌, arith}
+use Rattle.std.proofs.Common.{◌≡◌, ℕ, true, List, map, Option, None, Some, IfSome, option_map, refl, subst, sym, ap, ◌∙◌, arith}
 use Rattle.std.specs.Prelude.{slice_get}
 use Rattle.std.specs.List.{Contains}
 use Rattle.std.proofs.lemmas.Bool.Decides.{nat_tests}
@@ -7,7 +7,6 @@ use Rattle.std.proofs.lemmas.Option.{slice_get-map}
 use Rattle.ring_types.specs.declared.members.Member.{Member}
 use Rattle.ring_types.specs.Rings.{Layout}
 use Rattle.ring_model.specs.Runs.{is_whole_input, whole_moves, world}
-use Rattle.ring_model.specs.WellFormed.{IsNearlyWellFormed}
 use Rattle.ring_model.specs.Worlds.{WorldState, message_at, shown, shown_node}
 use Rattle.ring_model.specs.declared.messages.Input.{Input}
 use Rattle.ring_model.specs.declared.messages.Input.TheVariants as input
@@ -54,7 +53,8 @@ pub fit_at : (ring : Layout) (v : World) (place : ℕ) (s : Shown) → IsFitWorl
 fit_at ring v place s fit at = fit.nodes place s at
 
 -- a message of the list is a good input
-pub sent_is_good : (ring : Layout) (v : World) (number : ℕ) (m : Message) → IsFitWorld ring v → message_at v.messages number ≡ Some m → IsGood ring (input.Deliver m)
+pub sent_is_good : (ring : Layout) (v : World) (number : ℕ) (m : Message) → IsFitWorld ring v → message_at v.messages number ≡ Some m
+    → IsGood ring (input.Deliver m)
 sent_is_good ring v number m fit at = fit.messages m (in_number v.messages number m at)
 
 -- where a cursor moves, nodes and messages stay

@@ -2,6 +2,7 @@
 use Rattle.std.proofs.Common.{◌≡◌, ℕ, true, List, [], ◌∷◌, ◌++◌, length, take, Option, Some, refl, ap, subst, sym, ◌∙◌, arith}
 use Rattle.std.specs.Prelude.{slice_get}
 use Rattle.std.proofs.lemmas.List.{take_all}
+use Rattle.ring_types.specs.declared.entries.Entry.{Entry}
 use Rattle.ring_types.specs.Rings.{IsRing, Layout}
 use Rattle.ring_model.specs.Runs.{whole_moves, world}
 use Rattle.ring_model.specs.Worlds.{Task, WorldState, shown}
@@ -24,7 +25,8 @@ chosen_shown : (ring : Layout) (w : WorldState) → (shown ring w).chosen ≡ w.
 unfolding shown
 chosen_shown ring w = refl
 
-pub event_keeps : (ring : Layout) (r : ReplayState) (e : Event) → IsRing ring → IsHeld ring r → true ≡ known_among ring r.world.messages e.what → KeepsChosen r.world (shown_step ring r.world e.what)
+pub event_keeps : (ring : Layout) (r : ReplayState) (e : Event) → IsRing ring → IsHeld ring r → true ≡ known_among ring r.world.messages e.what
+    → KeepsChosen r.world (shown_step ring r.world e.what)
 event_keeps ring r e valid held known =
     let before = whole_moves held.events in
     let after = whole_moves (held.events ++ e ∷ []) in
@@ -33,7 +35,10 @@ event_keeps ring r e valid held known =
     let old : r.world.chosen ≡ (world ring before).chosen = ap (λ (v : World). v.chosen) held.world ∙ chosen_shown ring (world ring before) in
     let new : (shown_step ring r.world e.what).chosen ≡ (world ring after).chosen =
     ap (λ (v : World). v.chosen) (next_shown ring r e held valid.numbers_once known) ∙ chosen_shown ring (world ring after) in
-    rw old (rw new (sym a.same ∙ take_all (length (world ring before).chosen) (world ring before).chosen (omega arith)))
+    let kept : take (length (world ring before).chosen) (world ring after).chosen ≡ (world ring before).chosen =
+    sym a.same ∙ take_all (length (world ring before).chosen) (world ring before).chosen (omega arith) in
+    subst (λ (xs : List Entry). take (length xs) (shown_step ring r.world e.what).chosen ≡ xs) (sym old)
+    (subst (λ (ys : List Entry). take (length (world ring before).chosen) ys ≡ (world ring before).chosen) (sym new) kept)
 
 -- ---- one turn
 -- what a turn keeps it keeps also where its node is taken out for it

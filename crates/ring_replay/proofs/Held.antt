@@ -1,5 +1,5 @@
 -- A replay is one of its ring: at the beginning, after a turn, and so after each event, since the step of the shown world is the model's.
-use Rattle.std.proofs.Common.{◌≡◌, ℕ, zero, suc, ◌<◌, true, List, [], ◌∷◌, ◌++◌, length, map, Option, None, Some, option_map, refl, subst, ap, sym, ◌∙◌}
+use Rattle.std.proofs.Common.{◌≡◌, ℕ, zero, suc, ◌<◌, true, List, [], ◌∷◌, ◌++◌, length, map, Option, None, Some, option_map, refl, ap, sym, ◌∙◌}
 use Rattle.std.specs.Prelude.{slice_get, slice_set, OnOk, Result, Ok, Err}
 use Rattle.std.proofs.lemmas.List.{length-map, map-set, set-set}
 use Rattle.std.proofs.lemmas.Option.{slice_get-map, slice_get_within}
@@ -38,7 +38,8 @@ first_tables ring [] = refl
 first_tables ring (m ∷ ms) = let a = first_rows ring m in let b = first_tables ring ms in cc
 
 -- at the beginning
-pub first_held : (ring : Layout) (r : ReplayState) → r.world ≡ shown ring first_world → r.tables ≡ map (λ (m : Member). empty_filled ring.schema) ring.members → IsHeld ring r
+pub first_held : (ring : Layout) (r : ReplayState) → r.world ≡ shown ring first_world
+    → r.tables ≡ map (λ (m : Member). empty_filled ring.schema) ring.members → IsHeld ring r
 unfolding shown world
 first_held ring r is tables = record {
   events = [];

@@ -17,10 +17,14 @@ run_on : (ring : Layout) (w : WorldState) (a b : List Move) → IsRunFrom ring w
 run_on ring w [] b x y = y
 run_on ring w (m ∷ a) b x y = (x.0, x.1, run_on ring (world_step ring w m.event m.completion) a b x.2 y)
 
-pub one_more : (ring : Layout) (before : List Event) (e : Event) → IsRun ring (whole_moves before) → is_known ring (world ring (whole_moves before)) e.what ≡ true → IsRun ring (whole_moves (before ++ e ∷ []))
+pub one_more : (ring : Layout) (before : List Event) (e : Event) → IsRun ring (whole_moves before)
+    → is_known ring (world ring (whole_moves before)) e.what ≡ true → IsRun ring (whole_moves (before ++ e ∷ []))
 unfolding world
-one_more ring before e is known = subst (IsRun ring) (sym (moves_join before (e ∷ []))) (run_on ring first_world (whole_moves before) (whole_moves (e ∷ [])) is (known, tt, tt))
+one_more ring before e is known =
+    subst (IsRun ring) (sym (moves_join before (e ∷ []))) (run_on ring first_world (whole_moves before) (whole_moves (e ∷ [])) is (known, tt, tt))
 
-pub world_more : (ring : Layout) (before : List Event) (e : Event) → world ring (whole_moves (before ++ e ∷ [])) ≡ world_step ring (world ring (whole_moves before)) e Whole
+pub world_more : (ring : Layout) (before : List Event) (e : Event)
+    → world ring (whole_moves (before ++ e ∷ [])) ≡ world_step ring (world ring (whole_moves before)) e Whole
 unfolding world
-world_more ring before e = ap (world_from ring first_world) (moves_join before (e ∷ [])) ∙ world_on ring first_world (whole_moves before) (whole_moves (e ∷ []))
+world_more ring before e =
+    ap (world_from ring first_world) (moves_join before (e ∷ [])) ∙ world_on ring first_world (whole_moves before) (whole_moves (e ∷ []))

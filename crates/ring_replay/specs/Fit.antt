@@ -1,6 +1,6 @@
 -- What the laws of runs give of a world that is shown: fit nodes, messages that are nearly well formed, and a chosen sequence that only grows.
 -- Only private contracts cite this file.
-use Rattle.std.specs.Prelude.{◌≡◌, ℕ, List, IfSome, Some, length, slice_get, take}
+use Rattle.std.specs.Prelude.{◌≡◌, ℕ, IfSome, Some, length, slice_get, take}
 use Rattle.std.specs.List.{Contains}
 use Rattle.ring_types.specs.Rings.{Layout}
 use Rattle.ring_model.specs.WellFormed.{IsNearlyWellFormed}

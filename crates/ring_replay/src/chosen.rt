@@ -18,7 +18,6 @@ fn reach(shown: &Shown) -> u64
 
 /// The chosen sequence after an event of this node. It only grows, so what is chosen is the beginning
 /// of the log of a node that went further, and only the entries behind it are copied.
-#[tactic(auto, using(crate::proofs::Fronts::grown_longer))]
 pub(crate) fn grow(alloc: Global, chosen: &mut List<Entry>, shown: &Shown) -> Result<(), Memory>
     requires { take (length chosen.old) (spec.grown chosen.old (node_of shown.now)) ≡ chosen.old }
     ensures { OnOk result (chosen.new ≡ spec.grown chosen.old (node_of shown.now)) }

@@ -1,4 +1,4 @@
-use Rattle.std.proofs.Common.{rules, ◌≡◌, suc, ap, sym, ◌∙◌, arith}
+use Rattle.std.proofs.Common.{rules, ◌≡◌, suc, ap, sym, ◌∙◌}
 use Rattle.ring_types.specs.Logs.{entry_at}
 use Rattle.ring_types.specs.Rows.{after_payload}
 use Rattle.row_engine.specs.Filled.{Filled}

@@ -10,7 +10,8 @@ use Rattle.ring_replay.proofs.replays.Replay.go_down.Goals as goal
 pub take_turn-requires-clause-keeps : goal.take_turn-requires-clause-keeps
 take_turn-requires-clause-keeps c =
     let out = c.take_out-shown in
-    quiet_keeps c.args.ring.now c.args.self.now.world out.new.self.world c.args.place out.result (downed_node out.result) c.downed.result GoDown out.ensures.shown out.ensures.rest c.downed.ensures refl c.requires.keeps
+    quiet_keeps c.args.ring.now c.args.self.now.world out.new.self.world c.args.place out.result
+    (downed_node out.result) c.downed.result GoDown out.ensures.shown out.ensures.rest c.downed.ensures refl c.requires.keeps
 
 pub returns-clause-held : goal.returns-clause-held
 returns-clause-held c =
