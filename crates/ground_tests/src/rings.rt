@@ -309,6 +309,7 @@ fn six(rt: &(impl AllocGlobal + Abort)) -> List<u64> {
 #[test]
 fn takes_and_gives_items(rt: HostRuntime) {
     let mut list = six(&rt);
+    assert_eq!(rt; list.len(), 6);
     assert_eq!(rt; list.replace(0, 9), 1);
     assert_eq!(rt; list.replace(1, 8), 2);
     list.truncate(5);
