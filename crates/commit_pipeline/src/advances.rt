@@ -1,201 +1,117 @@
-ghost use Rattle.std.specs.Prelude.{◌≡◌, ◌+◌, ◌-◌, ◌^◌, ◌<◌, ◌++◌, ◌∷◌, [], Some, IfOk, length};
-ghost use Rattle.ring_types.specs.Logs as logs;
-ghost use Rattle.ring_model.specs.Steps as spec;
-ghost use Rattle.ring_model.specs.declared.effects.Action.TheVariants as action;
+ghost use Rattle.std.specs.Prelude.{◌≡◌, IfOk, OnOk, OnErr, IfSome};
+ghost use Rattle.edge_traits.specs.Views.{Keeps};
+ghost use Rattle.commit_pipeline.specs.Advances.{Advances, advanced_by};
+ghost use Rattle.commit_pipeline.specs.Faults.{CoreFails};
+ghost use Rattle.commit_pipeline.specs.Heres.{MayAdvance, durable_of};
 
-use crate::actions::{all_done, is_prepared, pair_of};
-use crate::commits::commit_count;
-use crate::steps::{Begun, stepped};
-use ring_model::{Action, Durable, Pending, Say, Soft, Step, What};
-use ring_types::{Duplicate, Entry, List, Memory, NodeId, Opid, Pair, Payload, Ring, entry_at};
+use crate::counts::commit_count;
+use crate::follows::follow;
+use crate::heres::{Engine, Here, Leader};
+use crate::parts::{committeds, waiting};
+use edge_traits::LogView;
+use ring_model::{CoreFault, Pending, Plan, Soft};
+use ring_types::List;
 use std::alloc::Global;
+use std::mem::replace;
 
-fn with_prepare(
-    alloc: Global,
-    actions: List<Action>,
-    entry: &Entry,
-    pairs: &[Pair],
-) -> Result<List<Action>, Memory>
-    ensures { IfOk result (λ it. it ≡ actions ++ spec.prepare_entry pairs.now (Some entry.now)) }
-{
-    let mut actions = actions;
-    if let Some(pair) = pair_of(alloc, entry)? {
-        if !is_prepared(pairs, entry.opid) {
-            actions.push(Action::Prepare(pair))?;
-        }
-    }
-    Ok(actions)
+/// The plan of a leader's step, and its commit count and pending writes after it.
+#[derive(Drop)]
+pub struct Advanced {
+    pub plan: Plan,
+    pub commit: u64,
+    pub pending: List<Pending>,
 }
 
-fn with_prepare_at(
+/// Ends a leader's step, without its soft part: the commit count rises, the engine follows, and the
+/// pending writes up to it are told. The view is the log after the plan's actions.
+pub fn advance_by<V: LogView>(
     alloc: Global,
-    actions: List<Action>,
-    log: &[Entry],
-    pairs: &[Pair],
-    position: u64,
-) -> Result<List<Action>, Memory>
-    ensures { IfOk result (λ it. it ≡ actions ++ spec.prepare_entry pairs.now (logs.entry_at log.now position)) }
+    view: &mut V,
+    leader: &Leader<'_>,
+    plan: Plan,
+) -> Result<Advanced, CoreFault>
+    requires { MayAdvance V.stands V.sees view.old leader.now.term leader.now.engine.applied leader.now.commit }
+    ensures told { IfSome (V.sees view.old).log (λ log. IfOk result (λ it. it ≡ advanced_by leader.now log plan)) }
+    ensures keeps { Keeps V.sees V.behind V.stands V.faults view.old view.new }
+    ensures failed { CoreFails (V.faults view.old) (V.faults view.new) result }
 {
-    match entry_at(log, position) {
-        Some(entry) => with_prepare(alloc, actions, entry, pairs),
-        None => Ok(actions),
-    }
-}
-
-/// The actions by which the engine follows from the applied count on for `count` positions.
-fn engine_actions(
-    alloc: Global,
-    log: &[Entry],
-    pairs: &[Pair],
-    applied: u64,
-    count: u64,
-) -> Result<List<Action>, Memory>
-    requires { applied + count < 2 ^ 64 }
-    ensures { IfOk result (λ it. it ≡ spec.engine_actions log.now pairs.now applied count) }
-{
-    let mut actions = List::new(alloc);
-    let mut position = applied;
-    let mut left = count;
-    while left > 0 {
-        position += 1;
-        left -= 1;
-        actions = with_prepare_at(alloc, actions, log, pairs, position)?;
-        actions.push(Action::Commit(position))?;
-    }
-    Ok(actions)
-}
-
-/// The actions by which the engine follows up to a commit count; none on a node without an engine.
-pub fn follow_actions(
-    alloc: Global,
-    ring: &Ring,
-    me: NodeId,
-    durable: &Durable,
-    commit: u64,
-) -> Result<List<Action>, Memory>
-    ensures { IfOk result (λ it. it ≡ spec.follow_actions ring.now me durable.now commit) }
-{
-    if ring.runs_engine(me) {
-        engine_actions(
-            alloc,
-            durable.log.as_slice(),
-            durable.prepared.as_slice(),
-            durable.applied,
-            commit.saturating_sub(durable.applied),
-        )
-    } else {
-        Ok(List::new(alloc))
-    }
-}
-
-/// What is said of each pending write up to the commit count, in order.
-fn committeds(
-    alloc: Global,
-    term: u64,
-    commit: u64,
-    pending: &[Pending],
-) -> Result<List<Say>, Memory>
-    ensures { IfOk result (λ it. it ≡ spec.committeds term commit pending.now) }
-{
-    let mut says = List::new(alloc);
-    for write in pending {
-        if write.opid.position <= commit {
-            says.push(Say {
-                client: write.client,
-                what: What::Committed {
-                    gtid: write.gtid,
-                    opid: write.opid,
-                    term,
-                },
-            })?;
-        }
-    }
-    Ok(says)
-}
-
-/// The pending writes above the commit count, in order.
-fn waiting(alloc: Global, commit: u64, pending: &[Pending]) -> Result<List<Pending>, Memory>
-    ensures { IfOk result (λ it. it ≡ spec.waiting commit pending.now) }
-{
-    let mut kept = List::new(alloc);
-    for write in pending {
-        if write.opid.position > commit {
-            kept.push(*write)?;
-        }
-    }
-    Ok(kept)
-}
-
-/// The rest of a leader's step whose commit count comes to `commit`, over the node as the actions so
-/// far leave it.
-fn advance_to(
-    alloc: Global,
-    ring: &Ring,
-    me: NodeId,
-    after: &Durable,
-    soft: Soft,
-    begun: Begun,
-    commit: u64,
-) -> Result<Step, Memory>
-    ensures { IfOk result (λ it. it ≡ spec.advance_to ring.now me after.now soft begun.actions begun.says commit) }
-{
-    let Begun {
-        mut actions,
-        mut says,
-    } = begun;
-    actions.append(follow_actions(alloc, ring, me, after, commit)?)?;
-    says.append(committeds(alloc, after.term, commit, soft.pending.as_slice())?)?;
-    let pending = waiting(alloc, commit, soft.pending.as_slice())?;
-    let soft = Soft {
+    let commit = commit_count(alloc, view, leader)?;
+    let Plan {
+        actions,
+        messages,
+        says,
+    } = plan;
+    let actions = follow(view, &leader.engine, commit, actions)?;
+    let Ok(says) = committeds(says, leader.term, commit, leader.pending) else {
+        return Err(CoreFault::Memory);
+    };
+    let Ok(pending) = waiting(alloc, commit, leader.pending) else {
+        return Err(CoreFault::Memory);
+    };
+    Ok(Advanced {
+        plan: Plan {
+            actions,
+            messages,
+            says,
+        },
         commit,
         pending,
-        ..soft
+    })
+}
+
+/// Ends a leader's step: the commit count rises, the engine follows, and the pending writes up to it
+/// are told. `here` is the node after the plan's actions; its GTIDs, history and file may be those
+/// from before.
+pub fn advance<'a, V: LogView>(
+    alloc: Global,
+    here: Here<'a, V>,
+    soft: &mut Soft,
+    plan: &mut Plan,
+) -> Result<(), CoreFault>
+    requires { MayAdvance V.stands V.sees here.view.now here.term here.applied soft.old.commit }
+    ensures told { IfSome (V.sees here.entry.view.now).log (λ log. OnOk result (Advances here.entry.ring.now here.entry.me (durable_of here.entry log) soft.old soft.new plan.old plan.new)) }
+    ensures stays { OnErr result (soft.new ≡ soft.old) }
+    ensures keeps { Keeps V.sees V.behind V.stands V.faults here.entry.view.now here.exit.0.now }
+    ensures failed { CoreFails (V.faults here.entry.view.now) (V.faults here.exit.0.now) result }
+{
+    let Here {
+        view,
+        ring,
+        me,
+        term,
+        applied,
+        prepared,
+        ..
+    } = here;
+    let empty = Plan {
+        actions: List::new(alloc),
+        messages: List::new(alloc),
+        says: List::new(alloc),
     };
-    Ok(stepped(actions, List::new(alloc), says, soft))
-}
-
-/// The end of a leader's step, after what comes first: its commit count advances, the engine follows,
-/// and the writes up to there are said to stand.
-#[tactic(auto, unfolding(ring_model::specs::Steps::advance))]
-pub fn advance(
-    alloc: Global,
-    ring: &Ring,
-    me: NodeId,
-    durable: &Durable,
-    soft: Soft,
-    begun: Begun,
-) -> Result<Step, Memory>
-    ensures { IfOk result (λ it. it ≡ spec.advance ring.now me durable.now soft begun.actions begun.says) }
-{
-    let after = all_done(alloc, durable.copy(alloc)?, begun.actions.as_slice())?;
-    let commit = commit_count(alloc, ring, me, after.term, after.log.as_slice(), &soft)?;
-    advance_to(alloc, ring, me, &after, soft, begun, commit)
-}
-
-/// The entry that a leader adds after its log.
-pub fn own_entry(ring: &Ring, me: NodeId, durable: &Durable, payload: Payload) -> Entry
-    requires { length durable.now.log < 2 ^ 64 - 1 }
-    ensures { result ≡ spec.own_entry ring.now me durable.now payload }
-{
-    Entry {
-        opid: Opid {
-            term: durable.term,
-            position: durable.log.len() as u64 + 1,
-        },
-        region: ring.region_of(me),
-        payload,
-    }
-}
-
-/// The actions so far, and after them the appending of an entry.
-pub fn with_append(
-    alloc: Global,
-    actions: List<Action>,
-    entry: Entry,
-) -> Result<List<Action>, Memory>
-    ensures { IfOk result (λ it. it ≡ actions ++ (action.Append (entry ∷ []) ∷ [])) }
-{
-    let mut actions = actions;
-    actions.push(Action::Append(List::of_one(alloc, entry)?))?;
-    Ok(actions)
+    let first = replace(plan, empty);
+    let engine = Engine {
+        ring,
+        me,
+        applied,
+        pairs: prepared.pairs().as_slice(),
+        upto: None,
+        made: None,
+    };
+    let leader = Leader {
+        engine,
+        term,
+        commit: soft.commit,
+        peers: soft.peers.as_slice(),
+        pending: soft.pending.as_slice(),
+    };
+    let advanced = advance_by(alloc, view, &leader, first)?;
+    let Advanced {
+        plan: more,
+        commit,
+        pending,
+    } = advanced;
+    *plan = more;
+    soft.commit = commit;
+    soft.pending = pending;
+    Ok(())
 }

@@ -1,38 +1,57 @@
-//! Why a client's command is refused: each test in the order in which the causes are told.
-ghost use Rattle.std.specs.Prelude.{◌≡◌, ◌-◌, ◌<◌, ◌∷◌, [], false, None, nat_le, IfOk, length};
+ghost use Rattle.std.specs.Prelude.{◌≡◌, IfOk};
+ghost use Rattle.std.specs.Option.{option_copied};
+ghost use Rattle.gtid_set.specs.Next.{next_in};
 ghost use Rattle.ring_types.specs.Rows as rows;
-ghost use Rattle.ring_model.specs.Replication.{file_limit, file_number};
 ghost use Rattle.ring_model.specs.Writes as spec;
-ghost use Rattle.commit_pipeline.specs.Engines.{engine_tables};
+ghost use Rattle.commit_pipeline.specs.Faults.{CoreFails};
+ghost use Rattle.commit_pipeline.specs.Refusals as own;
+ghost use Rattle.commit_pipeline.specs.Written.{refused_plan};
 
-use crate::actions::holder_of;
 use crate::roles::{is_leader, is_ready};
-use crate::steps::stepped;
-use ring_model::{Cause, Durable, Say, Soft, Step, Transfer, What};
-use ring_plain::{group_size, next_number, table_name};
+use gtid_set::GtidSet;
+use prepared_txns::Prepared;
+use ring_model::{Cause, CoreFault, Plan, Say, Soft, Transfer, What};
+use ring_plain::{group_size, table_name};
 use ring_types::{
-    Change, Duplicate, Entry, GROUP_BYTES, Gtid, LAST_FILE, List, Memory, NodeId, Pair, Payload,
-    Ring, TERM_END, Txn, Value, rotates,
+    Change, Duplicate, GROUP_BYTES, LAST_FILE, List, Memory, Payload, Schema, TERM_END, Value,
 };
 use row_engine::Tables;
 use std::alloc::Global;
 
-/// The step in which one refusal is said to a client, and nothing else happens.
-pub fn refused(alloc: Global, soft: Soft, client: u32, cause: Cause) -> Result<Step, Memory>
-    ensures { IfOk result (λ it. it ≡ spec.refused soft client cause) }
+/// The plan in which one refusal is said to a client, and nothing else happens.
+pub fn refused(alloc: Global, client: u32, cause: Cause) -> Result<Plan, CoreFault>
+    ensures told { IfOk result (λ it. it ≡ refused_plan client cause) }
+    ensures failed { CoreFails 0 0 result }
 {
     let what = What::Refused(cause);
-    let says = List::of_one(alloc, Say { client, what })?;
-    Ok(stepped(List::new(alloc), List::new(alloc), says, soft))
+    let Ok(says) = List::of_one(alloc, Say { client, what }) else {
+        return Err(CoreFault::Memory);
+    };
+    Ok(Plan {
+        actions: List::new(alloc),
+        messages: List::new(alloc),
+        says,
+    })
 }
 
-fn is_handing(transfer: Transfer) -> bool
+/// Whether the leader is handing its role over.
+pub fn is_handing(transfer: Transfer) -> bool
     ensures { result ≡ spec.is_handing transfer }
 {
     match transfer {
         Transfer::Off => false,
         Transfer::Mock { .. } => false,
         Transfer::Handing { .. } => true,
+    }
+}
+
+/// The number of the server's next transaction, if it has one.
+pub(crate) fn next_of(gtids: &GtidSet, server: u128) -> Option<u64>
+    ensures { result ≡ next_in server gtids.now }
+{
+    match gtids.next_number(server) {
+        Ok(next) => Some(next),
+        Err(_) => None,
     }
 }
 
@@ -56,125 +75,93 @@ fn change_key(alloc: Global, change: &Change) -> Result<Value, Memory>
 }
 
 /// The first change whose key a prepared transaction writes.
-fn lock_of(alloc: Global, pairs: &[Pair], changes: &[Change]) -> Result<Option<Cause>, Memory>
-    ensures { IfOk result (λ it. it ≡ spec.lock_of pairs.now changes.now) }
-{
-    for change in changes {
-        if let Some(pair) = holder_of(pairs, change) {
-            return Ok(Some(Cause::Locked {
-                table: table_name(change).copy(alloc)?,
-                key: change_key(alloc, change)?,
-                holder: pair.opid,
-            }));
-        }
-    }
-    Ok(None)
-}
-
-/// Whether the node's server has no next number, or the log has no next position.
-fn is_exhausted(ring: &Ring, me: NodeId, durable: &Durable) -> bool
-    ensures value { result ≡ spec.is_exhausted ring.now me durable.now }
-    ensures length { result ≡ false → length durable.now.log < TERM_END - 1 }
-{
-    let log = durable.log.as_slice();
-    next_number(ring.server_of(me), log).is_none() || TERM_END - 1 <= log.len() as u64
-}
-
-fn next_gtid(ring: &Ring, me: NodeId, durable: &Durable) -> Gtid
-    ensures { result ≡ spec.next_gtid ring.now me durable.now }
-{
-    let server = ring.server_of(me);
-    Gtid {
-        server,
-        number: next_number(server, durable.log.as_slice()).unwrap_or(0),
-    }
-}
-
-/// The transaction of a write: the changes under the server's next GTID.
-pub(crate) fn write_txn(
+fn lock_of(
     alloc: Global,
-    ring: &Ring,
-    me: NodeId,
-    durable: &Durable,
-    changes: &List<Change>,
-) -> Result<Txn, Memory>
-    ensures { IfOk result (λ it. it ≡ spec.write_txn ring.now me durable.now changes.now) }
-{
-    Ok(Txn {
-        gtid: next_gtid(ring, me, durable),
-        changes: changes.copy(alloc)?,
-    })
-}
-
-fn size_refusal(
-    alloc: Global,
-    ring: &Ring,
-    me: NodeId,
-    durable: &Durable,
+    prepared: &Prepared,
     changes: &List<Change>,
 ) -> Result<Option<Cause>, Memory>
-    ensures value { IfOk result (λ it. it ≡ spec.size_refusal ring.now me durable.now changes.now) }
-    ensures length { IfOk result (λ it. it ≡ None → length durable.now.log < TERM_END - 1) }
+    ensures { IfOk result (λ it. it ≡ spec.lock_of prepared.now changes.now) }
 {
-    let txn = write_txn(alloc, ring, me, durable, changes)?;
-    let bytes = group_size(ring.schema(), &Payload::Txn(txn));
+    match prepared.conflict(changes) {
+        None => Ok(None),
+        Some(conflict) => match changes.get(conflict.change as usize) {
+            None => Ok(None),
+            Some(change) => Ok(Some(Cause::Locked {
+                table: table_name(change).copy(alloc)?,
+                key: change_key(alloc, change)?,
+                holder: conflict.holder,
+            })),
+        },
+    }
+}
+
+fn is_full(next: Option<u64>, length: u64) -> bool
+    ensures { result ≡ own.is_full next length }
+{
+    next.is_none() || TERM_END - 1 <= length
+}
+
+fn size_refusal(schema: &Schema, next: Option<u64>, length: u64, payload: &Payload) -> Option<Cause>
+    ensures { result ≡ own.size_cause schema.now next length payload.now }
+{
+    let bytes = group_size(schema, payload);
     if GROUP_BYTES < bytes {
-        return Ok(Some(Cause::TooLarge { bytes }));
+        return Some(Cause::TooLarge { bytes });
     }
-    if is_exhausted(ring, me, durable) {
-        return Ok(Some(Cause::Exhausted));
+    if is_full(next, length) {
+        return Some(Cause::Exhausted);
     }
-    Ok(None)
+    None
 }
 
 fn lock_refusal(
     alloc: Global,
-    ring: &Ring,
-    me: NodeId,
-    durable: &Durable,
+    schema: &Schema,
+    next: Option<u64>,
+    length: u64,
+    payload: &Payload,
+    prepared: &Prepared,
     changes: &List<Change>,
 ) -> Result<Option<Cause>, Memory>
-    ensures value { IfOk result (λ it. it ≡ spec.lock_refusal ring.now me durable.now changes.now) }
-    ensures length { IfOk result (λ it. it ≡ None → length durable.now.log < TERM_END - 1) }
+    ensures { IfOk result (λ it. it ≡ own.lock_cause schema.now next length payload.now prepared.now changes.now) }
 {
-    match lock_of(alloc, durable.prepared.as_slice(), changes.as_slice())? {
+    match lock_of(alloc, prepared, changes)? {
         Some(cause) => Ok(Some(cause)),
-        None => size_refusal(alloc, ring, me, durable, changes),
+        None => Ok(size_refusal(schema, next, length, payload)),
     }
 }
 
 fn change_refusal(
     alloc: Global,
-    ring: &Ring,
-    me: NodeId,
-    durable: &Durable,
     tables: &Tables,
+    schema: &Schema,
+    next: Option<u64>,
+    length: u64,
+    payload: &Payload,
+    prepared: &Prepared,
     changes: &List<Change>,
 ) -> Result<Option<Cause>, Memory>
-    requires { tables.now ≡ engine_tables ring.now durable.now }
-    ensures value { IfOk result (λ it. it ≡ spec.change_refusal ring.now me durable.now changes.now) }
-    ensures length { IfOk result (λ it. it ≡ None → length durable.now.log < TERM_END - 1) }
+    ensures { IfOk result (λ it. it ≡ own.change_cause tables.now schema.now next length payload.now prepared.now changes.now) }
 {
     match tables.check(changes) {
         Err(refusal) => Ok(Some(Cause::Invalid(refusal))),
-        Ok(()) => lock_refusal(alloc, ring, me, durable, changes),
+        Ok(()) => lock_refusal(alloc, schema, next, length, payload, prepared, changes),
     }
 }
 
-/// Why a write is refused: the first cause that holds.
-#[tactic(auto, unfolding(ring_model::specs::Writes::write_refusal))]
+/// Why a write is refused, if it is: the first cause that holds.
 pub(crate) fn write_refusal(
     alloc: Global,
-    ring: &Ring,
-    me: NodeId,
-    durable: &Durable,
     soft: &Soft,
-    tables: &Tables,
+    tables: Option<&Tables>,
+    schema: &Schema,
+    next: Option<u64>,
+    length: u64,
+    payload: &Payload,
+    prepared: &Prepared,
     changes: &List<Change>,
 ) -> Result<Option<Cause>, Memory>
-    requires { tables.now ≡ engine_tables ring.now durable.now }
-    ensures value { IfOk result (λ it. it ≡ spec.write_refusal ring.now me durable.now soft.now changes.now) }
-    ensures length { IfOk result (λ it. it ≡ None → length durable.now.log < TERM_END - 1) }
+    ensures { IfOk result (λ it. it ≡ own.write_cause soft.now (option_copied tables.entry) schema.now next length payload.now prepared.now changes.now) }
 {
     if !is_leader(soft.role) {
         return Ok(Some(Cause::NotLeader));
@@ -182,31 +169,25 @@ pub(crate) fn write_refusal(
     if !is_ready(soft) {
         return Ok(Some(Cause::NotReady));
     }
-    if !ring.runs_engine(me) {
+    let Some(tables) = tables else {
         return Ok(Some(Cause::NoEngine));
-    }
+    };
     if is_handing(soft.transfer) {
         return Ok(Some(Cause::Transferring));
     }
-    change_refusal(alloc, ring, me, durable, tables, changes)
+    change_refusal(
+        alloc, tables, schema, next, length, payload, prepared, changes,
+    )
 }
 
-fn is_last_file(durable: &Durable) -> bool
-    ensures { result ≡ nat_le file_limit (file_number durable.now.log) }
-{
-    LAST_FILE - 1 <= rotates(durable.log.as_slice())
-}
-
-/// Why a rotate is refused: the first cause that holds.
-#[tactic(auto, unfolding(ring_model::specs::Writes::rotate_refusal))]
+/// Why a rotate is refused, if it is: the first cause that holds.
 pub(crate) fn rotate_refusal(
-    ring: &Ring,
-    me: NodeId,
-    durable: &Durable,
     soft: &Soft,
+    next: Option<u64>,
+    length: u64,
+    file: u32,
 ) -> Option<Cause>
-    ensures value { result ≡ spec.rotate_refusal ring.now me durable.now soft.now }
-    ensures length { result ≡ None → length durable.now.log < TERM_END - 1 }
+    ensures { result ≡ own.rotate_cause soft.now next length file }
 {
     if !is_leader(soft.role) {
         return Some(Cause::NotLeader);
@@ -217,10 +198,10 @@ pub(crate) fn rotate_refusal(
     if is_handing(soft.transfer) {
         return Some(Cause::Transferring);
     }
-    if is_exhausted(ring, me, durable) {
+    if is_full(next, length) {
         return Some(Cause::Exhausted);
     }
-    if is_last_file(durable) {
+    if LAST_FILE <= u64::from(file) {
         return Some(Cause::LastFile);
     }
     None

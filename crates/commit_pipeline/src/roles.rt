@@ -3,8 +3,7 @@ ghost use Rattle.ring_model.specs.Nodes as nodes;
 ghost use Rattle.ring_model.specs.Steps as spec;
 ghost use Rattle.ring_model.specs.declared.effects.Action.TheVariants as action;
 
-use crate::steps::{Begun, stepped};
-use ring_model::{Action, Mock, Role, Say, Soft, Step, Transfer, What};
+use ring_model::{Action, Mock, Plan, Role, Say, Soft, Transfer, What};
 use ring_types::{List, Memory};
 use std::alloc::Global;
 
@@ -26,19 +25,15 @@ pub fn is_ready(soft: &Soft) -> bool
     is_leader(soft.role) && soft.ready_at <= soft.commit
 }
 
-/// The soft part of a follower, without what belongs to a leadership, a candidacy or a mock
-/// election.
-pub fn demoted(alloc: Global, soft: Soft) -> Soft
-    ensures { result ≡ spec.demoted soft }
+/// Makes a follower, and empties what belongs to a leadership, a candidacy or a mock election.
+pub fn demote(alloc: Global, soft: &mut Soft)
+    ensures { soft.new ≡ spec.demoted soft.old }
 {
-    Soft {
-        role: Role::Follower,
-        grants: List::new(alloc),
-        pending: List::new(alloc),
-        transfer: Transfer::Off,
-        mock: Mock::Off,
-        ..soft
-    }
+    soft.role = Role::Follower;
+    soft.grants = List::new(alloc);
+    soft.pending = List::new(alloc);
+    soft.transfer = Transfer::Off;
+    soft.mock = Mock::Off;
 }
 
 /// What is said of each pending write by a node that stops leading, in order.
@@ -58,20 +53,16 @@ pub fn unknowns(alloc: Global, soft: &Soft) -> Result<List<Say>, Memory>
     Ok(says)
 }
 
-/// What comes first in the step of a node that takes a greater term and steps down.
-pub fn adopt(alloc: Global, soft: &Soft, term: u64) -> Result<Begun, Memory>
-    ensures { IfOk result (λ it. it ≡ record { actions = action.SetTerm term ∷ []; says = spec.unknowns soft.now }) }
+/// The plan of a node that hears of a greater term: it takes the term, and says of its pending writes
+/// that it does not know.
+pub fn adopted(alloc: Global, term: u64, soft: &Soft) -> Result<Plan, Memory>
+    ensures { IfOk result (λ it. it ≡ record { actions = action.SetTerm term ∷ []; messages = []; says = spec.unknowns soft.now }) }
 {
     let actions = List::of_one(alloc, Action::SetTerm(term))?;
     let says = unknowns(alloc, soft)?;
-    Ok(Begun { actions, says })
-}
-
-/// The step of a node that hears of a greater term: it takes the term and steps down.
-pub fn adopt_term(alloc: Global, soft: Soft, term: u64) -> Result<Step, Memory>
-    ensures { IfOk result (λ it. it ≡ spec.stepped (action.SetTerm term ∷ []) [] (spec.unknowns soft) (spec.demoted soft)) }
-{
-    let Begun { actions, says } = adopt(alloc, &soft, term)?;
-    let soft = demoted(alloc, soft);
-    Ok(stepped(actions, List::new(alloc), says, soft))
+    Ok(Plan {
+        actions,
+        messages: List::new(alloc),
+        says,
+    })
 }

@@ -1,11 +1,11 @@
 ghost use Rattle.std.specs.Prelude.{◌≡◌, []};
 ghost use Rattle.ring_model.specs.Steps as spec;
 
-use ring_model::{Action, Body, Message, Plan, Say, Soft, Step};
+use ring_model::{Action, Body, Message, Plan, Say};
 use ring_types::{List, NodeId};
 use std::alloc::Global;
 
-/// What stands first in a step that is not whole yet: its actions and its sayings so far.
+/// What stands first in a plan that is not whole yet: its actions and its sayings so far.
 #[derive(Drop)]
 pub struct Begun {
     pub actions: List<Action>,
@@ -24,25 +24,15 @@ impl Begun {
     }
 }
 
-/// The step of these actions, messages and sayings, with this soft part.
-pub fn stepped(actions: List<Action>, messages: List<Message>, says: List<Say>, soft: Soft) -> Step
-    ensures { result ≡ spec.stepped actions messages says soft }
+/// The plan in which nothing happens.
+pub fn idle(alloc: Global) -> Plan
+    ensures { result ≡ record { actions = []; messages = []; says = [] } }
 {
-    Step {
-        plan: Plan {
-            actions,
-            messages,
-            says,
-        },
-        soft,
+    Plan {
+        actions: List::new(alloc),
+        messages: List::new(alloc),
+        says: List::new(alloc),
     }
-}
-
-/// The step in which nothing happens.
-pub fn idle(alloc: Global, soft: Soft) -> Step
-    ensures { result ≡ spec.idle soft }
-{
-    stepped(List::new(alloc), List::new(alloc), List::new(alloc), soft)
 }
 
 /// A message between two members.

@@ -1,81 +1,310 @@
-ghost use Rattle.std.specs.Prelude.{◌≡◌, ◌∷◌, [], IfOk};
-ghost use Rattle.ring_model.specs.Writes as spec;
-ghost use Rattle.commit_pipeline.specs.Engines.{engine_tables};
+ghost use Rattle.std.specs.Prelude.{◌≡◌, ◌+◌, ◌-◌, ◌^◌, ◌<◌, ◌≤◌, ◌++◌, ◌∷◌, [], true, None, Some, IfOk, IfSome, OnErr, length};
+ghost use Rattle.ring_types.specs.declared.limits.TheConstants.{LAST_FILE, TERM_END};
+ghost use Rattle.ring_types.specs.Logs as logs;
+ghost use Rattle.ring_types.specs.Rows.{payload_fits};
+ghost use Rattle.ring_types.specs.Sizes.{group_bytes, group_limit};
+ghost use Rattle.ring_types.specs.declared.entries.Payload.TheVariants as kind;
+ghost use Rattle.edge_traits.specs.Views.{Keeps};
 ghost use Rattle.ring_model.specs.declared.effects.Action.TheVariants as action;
+ghost use Rattle.ring_model.specs.Writes as spec;
+ghost use Rattle.commit_pipeline.specs.Faults.{CoreFails};
+ghost use Rattle.commit_pipeline.specs.Heres.{IsLedLog, StandsForNode, durable_of};
+ghost use Rattle.commit_pipeline.specs.Refusals.{txn_of};
+ghost use Rattle.commit_pipeline.specs.Written as own;
 
-use crate::advances::{advance, own_entry, with_append};
-use crate::refusals::{refused, write_refusal, write_txn};
+use crate::adds::add_entry;
+use crate::advances::Advanced;
+use crate::heres::{Engine, Here, Leader};
+use crate::reads::last;
+use crate::refusals::{next_of, refused, rotate_refusal, write_refusal};
 use crate::steps::Begun;
-use ring_model::{Action, Durable, Pending, Soft, Step};
-use ring_types::{Change, Duplicate, Entry, Gtid, List, Memory, NodeId, Pair, Payload, Ring, Txn};
-use row_engine::Tables;
+use edge_traits::LogView;
+use ring_model::{Action, CoreFault, Pending, Plan, Say, Soft, What};
+use ring_types::{Change, Duplicate, Entry, Gtid, List, Memory, Opid, Pair, Payload, Txn};
 use std::alloc::Global;
 
-fn awaits(soft: Soft, client: u32, entry: &Entry, gtid: Gtid) -> Result<Soft, Memory>
-    ensures { IfOk result (λ it. it ≡ spec.awaits soft client entry.now gtid) }
+fn next_gtid(server: u128, next: Option<u64>) -> Gtid
+    ensures { result ≡ (txn_of server next []).gtid }
 {
-    let mut soft = soft;
-    soft.pending.push(Pending {
-        client,
-        gtid,
-        opid: entry.opid,
-    })?;
-    Ok(soft)
+    Gtid {
+        server,
+        number: next.unwrap_or(0),
+    }
 }
 
-/// The transaction is prepared, then its entry added.
-fn write_actions(alloc: Global, txn: Txn, entry: Entry) -> Result<List<Action>, Memory>
-    ensures { IfOk result (λ it. it ≡ action.Prepare (record { opid = entry.opid; txn = txn }) ∷ action.Append (entry ∷ []) ∷ []) }
-{
-    let pair = Pair {
-        opid: entry.opid,
-        txn,
-    };
-    let actions = List::of_one(alloc, Action::Prepare(pair))?;
-    with_append(alloc, actions, entry)
-}
-
-fn write_entry_step(
+fn write_txn(
     alloc: Global,
-    ring: &Ring,
-    me: NodeId,
-    durable: &Durable,
-    soft: Soft,
+    server: u128,
+    next: Option<u64>,
+    changes: &List<Change>,
+) -> Result<Txn, Memory>
+    ensures { IfOk result (λ it. it ≡ txn_of server next changes.now) }
+{
+    Ok(Txn {
+        gtid: next_gtid(server, next),
+        changes: changes.copy(alloc)?,
+    })
+}
+
+fn prepare(alloc: Global, opid: Opid, txn: Txn) -> Result<Begun, Memory>
+    ensures { IfOk result (λ it. it ≡ record { actions = action.Prepare (record { opid = opid; txn = txn }) ∷ []; says = [] }) }
+{
+    let actions = List::of_one(alloc, Action::Prepare(Pair { opid, txn }))?;
+    Ok(Begun {
+        actions,
+        says: List::new(alloc),
+    })
+}
+
+/// The pending writes with one more.
+fn awaits(
+    alloc: Global,
+    pending: &[Pending],
+    client: u32,
+    gtid: Gtid,
+    opid: Opid,
+) -> Result<List<Pending>, Memory>
+    ensures { IfOk result (λ it. it ≡ pending.now ++ record { client = client; gtid = gtid; opid = opid } ∷ []) }
+{
+    let mut all = List::new(alloc);
+    all.extend_from_slice(pending)?;
+    all.push(Pending { client, gtid, opid })?;
+    Ok(all)
+}
+
+/// The step of a write that is not refused: its transaction prepared, and its entry added.
+fn add_write<V: LogView>(
+    alloc: Global,
+    view: &mut V,
+    end: u64,
+    leader: &Leader<'_>,
     client: u32,
     txn: Txn,
-    entry: Entry,
-) -> Result<Step, Memory>
-    ensures { IfOk result (λ it. it ≡ spec.write_entry_step ring.now me durable.now soft client txn entry) }
+    payload: Payload,
+) -> Result<Advanced, CoreFault>
+    requires stands { V.stands view.old }
+    requires end { end ≡ (V.sees view.old).length }
+    requires whole { IfSome (V.sees view.old).log (λ log. length log ≡ (V.sees view.old).length) }
+    requires short { end + 1 < TERM_END }
+    requires applied { leader.now.engine.applied ≤ leader.now.commit }
+    requires commit { leader.now.commit ≤ end }
+    requires is { payload ≡ kind.Txn txn }
+    requires fits { payload_fits (V.sees view.old).schema (kind.Txn txn) ≡ true }
+    requires small { group_bytes (V.sees view.old).schema (kind.Txn txn) ≤ group_limit }
+    requires led { IfSome (V.sees view.old).log (IsLedLog leader.now.term) }
+    ensures told { IfSome (V.sees view.old).log (λ log. IfOk result (λ it. it ≡ own.write_by leader.now.engine.ring.now leader.now.engine.me leader.now.term log leader.now.engine.applied leader.now.engine.pairs.now leader.now.commit leader.now.peers.now leader.now.pending.now client txn end)) }
+    ensures keeps { Keeps V.sees V.behind V.stands V.faults view.old view.new }
+    ensures failed { CoreFails (V.faults view.old) (V.faults view.new) result }
 {
-    let soft = awaits(soft, client, &entry, txn.gtid)?;
-    let actions = write_actions(alloc, txn, entry)?;
-    let says = List::new(alloc);
-    advance(alloc, ring, me, durable, soft, Begun { actions, says })
+    let engine = &leader.engine;
+    let opid = Opid {
+        term: leader.term,
+        position: end + 1,
+    };
+    let Ok(pending) = awaits(alloc, leader.pending, client, txn.gtid, opid) else {
+        return Err(CoreFault::Memory);
+    };
+    let Ok(first) = prepare(alloc, opid, txn) else {
+        return Err(CoreFault::Memory);
+    };
+    let entry = Entry {
+        opid,
+        region: engine.ring.region_of(engine.me),
+        payload,
+    };
+    let made = Engine {
+        ring: engine.ring,
+        me: engine.me,
+        applied: engine.applied,
+        pairs: engine.pairs,
+        upto: None,
+        made: Some(opid),
+    };
+    let leader = Leader {
+        engine: made,
+        term: leader.term,
+        commit: leader.commit,
+        peers: leader.peers,
+        pending: pending.as_slice(),
+    };
+    add_entry(alloc, view, end, &leader, entry, first)
 }
 
-/// The step of a client's write: the first refusal, or the transaction prepared and its entry added,
-/// and the client waits for its commit. `tables` are those of the node's engine, which the caller
-/// keeps.
-#[tactic(auto, unfolding(ring_model::specs::Writes::write))]
-pub fn write(
+/// The plan of a client's write: the first refusal, or the transaction prepared and its entry added,
+/// and the client waits for its commit.
+pub fn write<'a, V: LogView>(
     alloc: Global,
-    ring: &Ring,
-    me: NodeId,
-    durable: &Durable,
-    soft: Soft,
-    tables: &Tables,
+    here: Here<'a, V>,
+    soft: &mut Soft,
     client: u32,
     changes: &List<Change>,
-) -> Result<Step, Memory>
-    requires { tables.now ≡ engine_tables ring.now durable.now }
-    ensures { IfOk result (λ it. it ≡ spec.write ring.now me durable.now soft client changes.now) }
+) -> Result<Plan, CoreFault>
+    requires node { StandsForNode V.stands V.sees here soft.old }
+    requires some { 0 < length changes.now }
+    ensures told { IfSome (V.sees here.entry.view.now).log (λ log. IfOk result (λ it. spec.write here.entry.ring.now here.entry.me (durable_of here.entry log) soft.old client changes.now ≡ record { plan = it; soft = soft.new })) }
+    ensures stays { OnErr result (soft.new ≡ soft.old) }
+    ensures keeps { Keeps V.sees V.behind V.stands V.faults here.entry.view.now here.exit.0.now }
+    ensures failed { CoreFails (V.faults here.entry.view.now) (V.faults here.exit.0.now) result }
 {
-    match write_refusal(alloc, ring, me, durable, &soft, tables, changes)? {
-        Some(cause) => refused(alloc, soft, client, cause),
-        None => {
-            let txn = write_txn(alloc, ring, me, durable, changes)?;
-            let entry = own_entry(ring, me, durable, Payload::Txn(txn.copy(alloc)?));
-            write_entry_step(alloc, ring, me, durable, soft, client, txn, entry)
-        }
+    let Here {
+        view,
+        ring,
+        me,
+        term,
+        gtids,
+        tables,
+        applied,
+        prepared,
+        ..
+    } = here;
+    let end = last(view)?.position;
+    let server = ring.server_of(me);
+    let next = next_of(gtids, server);
+    let Ok(txn) = write_txn(alloc, server, next, changes) else {
+        return Err(CoreFault::Memory);
+    };
+    let Ok(copy) = txn.copy(alloc) else {
+        return Err(CoreFault::Memory);
+    };
+    let payload = Payload::Txn(copy);
+    let Ok(refusal) = write_refusal(
+        alloc,
+        soft,
+        tables,
+        ring.schema(),
+        next,
+        end,
+        &payload,
+        prepared,
+        changes,
+    ) else {
+        return Err(CoreFault::Memory);
+    };
+    match refusal {
+        Some(cause) => return refused(alloc, client, cause),
+        None => {}
     }
+    let engine = Engine {
+        ring,
+        me,
+        applied,
+        pairs: prepared.pairs().as_slice(),
+        upto: None,
+        made: None,
+    };
+    let leader = Leader {
+        engine,
+        term,
+        commit: soft.commit,
+        peers: soft.peers.as_slice(),
+        pending: soft.pending.as_slice(),
+    };
+    let advanced = add_write(alloc, view, end, &leader, client, txn, payload)?;
+    let Advanced {
+        plan,
+        commit,
+        pending,
+    } = advanced;
+    soft.commit = commit;
+    soft.pending = pending;
+    Ok(plan)
+}
+
+/// The step of a rotate that is not refused: its entry added.
+fn add_rotate<V: LogView>(
+    alloc: Global,
+    view: &mut V,
+    end: u64,
+    leader: &Leader<'_>,
+    client: u32,
+) -> Result<Advanced, CoreFault>
+    requires stands { V.stands view.old }
+    requires end { end ≡ (V.sees view.old).length }
+    requires whole { IfSome (V.sees view.old).log (λ log. length log ≡ (V.sees view.old).length) }
+    requires short { end + 1 < TERM_END }
+    requires applied { leader.now.engine.applied ≤ leader.now.commit }
+    requires commit { leader.now.commit ≤ end }
+    requires led { IfSome (V.sees view.old).log (IsLedLog leader.now.term) }
+    requires plain { (leader.now.engine.upto ≡ None) × (leader.now.engine.made ≡ None) }
+    requires room { IfSome (V.sees view.old).log (λ log. logs.rotates log + 1 ≤ LAST_FILE - 1) }
+    ensures told { IfSome (V.sees view.old).log (λ log. IfOk result (λ it. it ≡ own.rotate_by leader.now.engine.ring.now leader.now.engine.me leader.now.term log leader.now.engine.applied leader.now.engine.pairs.now leader.now.commit leader.now.peers.now leader.now.pending.now client end)) }
+    ensures keeps { Keeps V.sees V.behind V.stands V.faults view.old view.new }
+    ensures failed { CoreFails (V.faults view.old) (V.faults view.new) result }
+{
+    let engine = &leader.engine;
+    let opid = Opid {
+        term: leader.term,
+        position: end + 1,
+    };
+    let what = What::Rotated(opid);
+    let Ok(says) = List::of_one(alloc, Say { client, what }) else {
+        return Err(CoreFault::Memory);
+    };
+    let entry = Entry {
+        opid,
+        region: engine.ring.region_of(engine.me),
+        payload: Payload::Rotate,
+    };
+    let first = Begun {
+        actions: List::new(alloc),
+        says,
+    };
+    add_entry(alloc, view, end, leader, entry, first)
+}
+
+/// The plan of a client's command to end the binary log file.
+pub fn rotate<'a, V: LogView>(
+    alloc: Global,
+    here: Here<'a, V>,
+    soft: &mut Soft,
+    client: u32,
+) -> Result<Plan, CoreFault>
+    requires node { StandsForNode V.stands V.sees here soft.old }
+    ensures told { IfSome (V.sees here.entry.view.now).log (λ log. IfOk result (λ it. spec.rotate here.entry.ring.now here.entry.me (durable_of here.entry log) soft.old client ≡ record { plan = it; soft = soft.new })) }
+    ensures stays { OnErr result (soft.new ≡ soft.old) }
+    ensures keeps { Keeps V.sees V.behind V.stands V.faults here.entry.view.now here.exit.0.now }
+    ensures failed { CoreFails (V.faults here.entry.view.now) (V.faults here.exit.0.now) result }
+{
+    let Here {
+        view,
+        ring,
+        me,
+        term,
+        gtids,
+        applied,
+        prepared,
+        file,
+        ..
+    } = here;
+    let end = last(view)?.position;
+    let server = ring.server_of(me);
+    let next = next_of(gtids, server);
+    match rotate_refusal(soft, next, end, file) {
+        Some(cause) => return refused(alloc, client, cause),
+        None => {}
+    }
+    let engine = Engine {
+        ring,
+        me,
+        applied,
+        pairs: prepared.pairs().as_slice(),
+        upto: None,
+        made: None,
+    };
+    let leader = Leader {
+        engine,
+        term,
+        commit: soft.commit,
+        peers: soft.peers.as_slice(),
+        pending: soft.pending.as_slice(),
+    };
+    let advanced = add_rotate(alloc, view, end, &leader, client)?;
+    let Advanced {
+        plan,
+        commit,
+        pending,
+    } = advanced;
+    soft.commit = commit;
+    soft.pending = pending;
+    Ok(plan)
 }

@@ -1,0 +1,5 @@
+pub mod Between
+pub mod Bidding
+pub mod Electing
+pub mod Replying
+pub mod Judging

@@ -1,11 +1,27 @@
-ghost use Rattle.std.specs.Prelude.{◌≡◌, ◌^◌, ◌<◌, ◌++◌, ◌∷◌, [], IfOk, length};
+ghost use Rattle.std.specs.Prelude.{◌≡◌, ◌++◌, ◌∷◌, [], IfOk, IfSome, OnErr};
+ghost use Rattle.edge_traits.specs.Views.{Keeps};
 ghost use Rattle.ring_model.specs.Elections as spec;
+ghost use Rattle.commit_pipeline.specs.Faults.{CoreFails};
+ghost use Rattle.commit_pipeline.specs.Heres.{StandsForNode, durable_of};
+ghost use Rattle.election_core.specs.Bids as own;
 
-use crate::leading::lead_or_ask;
-use commit_pipeline::{Begun, adopt_term, idle};
-use ring_model::{Durable, Role, Soft, Step, VoteReply};
-use ring_types::{Duplicate, Entry, Grant, List, Memory, NodeId, Ring};
+use crate::leading::{Bid, Candidate, lead_or_ask, settle};
+use commit_pipeline::{Begun, Here, adopted, demote, idle, last};
+use edge_traits::LogView;
+use ring_model::{CoreFault, Plan, Role, Soft, VoteReply};
+use ring_types::{Duplicate, Grant, List, Memory, NodeId};
 use std::alloc::Global;
+
+/// Whether a node of this role makes nothing of a reply: only a candidate hears it.
+fn is_deaf(role: Role) -> bool
+    ensures { result ≡ own.is_deaf role }
+{
+    match role {
+        Role::Follower => true,
+        Role::Candidate => false,
+        Role::Leader => true,
+    }
+}
 
 fn has_granted(grants: &[Grant], from: NodeId) -> bool
     ensures { result ≡ spec.has_granted grants.now from }
@@ -13,100 +29,85 @@ fn has_granted(grants: &[Grant], from: NodeId) -> bool
     grants.iter().any(|grant| grant.voter == from)
 }
 
-fn with_grant(
+/// Whether the reply is a grant of the present term that is not counted yet.
+fn counts(term: u64, grants: &[Grant], from: NodeId, reply: &VoteReply) -> bool
+    ensures { result ≡ own.counts term grants.now from reply.now }
+{
+    reply.granted && reply.term == term && !has_granted(grants, from)
+}
+
+/// What a candidate comes with once the reply is counted.
+fn next_bid(
     alloc: Global,
-    soft: &Soft,
+    grants: &List<Grant>,
     from: NodeId,
     reply: &VoteReply,
-) -> Result<List<Grant>, Memory>
-    ensures { IfOk result (λ it. it ≡ soft.now.grants ++ record { voter = from; votes = reply.now.votes } ∷ []) }
+) -> Result<Bid, Memory>
+    ensures { IfOk result (λ it. it ≡ own.next_bid grants.now from reply.now) }
 {
-    let mut grants = soft.grants.copy(alloc)?;
+    let mut grants = grants.copy(alloc)?;
     grants.push(Grant {
         voter: from,
         votes: reply.votes.copy(alloc)?,
     })?;
-    Ok(grants)
+    Ok(Bid {
+        grants,
+        begun: Begun::nothing(alloc),
+        asks: List::new(alloc),
+    })
 }
 
-/// A slice has fewer than 2^63 items. It does nothing.
-fn law_fits(log: &[Entry])
-    ensures { length log.now < 2 ^ 63 }
-{
-    let _ = log;
-}
-
-/// The step of a candidate with one grant more.
-fn count_on(
+/// The plan of a node that hears the reply of the voter `from`.
+pub fn on_reply<'a, V: LogView>(
     alloc: Global,
-    ring: &Ring,
-    me: NodeId,
-    durable: &Durable,
-    soft: Soft,
-    grants: List<Grant>,
-) -> Result<Step, Memory>
-    ensures { IfOk result (λ it. it ≡ spec.lead_or_ask ring.now me durable.now soft [] [] grants []) }
-{
-    law_fits(durable.log.as_slice());
-    let begun = Begun::nothing(alloc);
-    let asks = List::new(alloc);
-    lead_or_ask(alloc, ring, me, durable, soft, begun, grants, asks)
-}
-
-/// A grant of the present term counts once.
-fn count_grant(
-    alloc: Global,
-    ring: &Ring,
-    me: NodeId,
-    durable: &Durable,
-    soft: Soft,
+    here: Here<'a, V>,
+    soft: &mut Soft,
     from: NodeId,
     reply: &VoteReply,
-) -> Result<Step, Memory>
-    ensures { IfOk result (λ it. it ≡ spec.count_grant ring.now me durable.now soft from reply.now) }
+) -> Result<Plan, CoreFault>
+    requires node { StandsForNode V.stands V.sees here soft.old }
+    ensures told { IfSome (V.sees here.entry.view.now).log (λ log. IfOk result (λ it. spec.on_reply here.entry.ring.now here.entry.me (durable_of here.entry log) soft.old from reply.now ≡ record { plan = it; soft = soft.new })) }
+    ensures stays { OnErr result (soft.new ≡ soft.old) }
+    ensures keeps { Keeps V.sees V.behind V.stands V.faults here.entry.view.now here.exit.0.now }
+    ensures failed { CoreFails (V.faults here.entry.view.now) (V.faults here.exit.0.now) result }
 {
-    if reply.granted && reply.term == durable.term && !has_granted(soft.grants.as_slice(), from) {
-        let grants = with_grant(alloc, &soft, from, reply)?;
-        count_on(alloc, ring, me, durable, soft, grants)
-    } else {
-        Ok(idle(alloc, soft))
+    let Here {
+        view,
+        ring,
+        me,
+        term,
+        applied,
+        prepared,
+        ..
+    } = here;
+    if is_deaf(soft.role) {
+        return Ok(idle(alloc));
     }
-}
-
-fn candidate_hears(
-    alloc: Global,
-    ring: &Ring,
-    me: NodeId,
-    durable: &Durable,
-    soft: Soft,
-    from: NodeId,
-    reply: &VoteReply,
-) -> Result<Step, Memory>
-    ensures { IfOk result (λ it. it ≡ spec.candidate_hears ring.now me durable.now soft from reply.now) }
-{
-    if durable.term < reply.term {
-        adopt_term(alloc, soft, reply.term)
-    } else {
-        count_grant(alloc, ring, me, durable, soft, from, reply)
+    if term < reply.term {
+        let Ok(plan) = adopted(alloc, reply.term, soft) else {
+            return Err(CoreFault::Memory);
+        };
+        demote(alloc, soft);
+        return Ok(plan);
     }
-}
-
-/// The step of a node that hears the reply of the voter `from`.
-#[tactic(auto, unfolding(ring_model::specs::Elections::on_reply))]
-pub fn on_reply(
-    alloc: Global,
-    ring: &Ring,
-    me: NodeId,
-    durable: &Durable,
-    soft: Soft,
-    from: NodeId,
-    reply: &VoteReply,
-) -> Result<Step, Memory>
-    ensures { IfOk result (λ it. it ≡ spec.on_reply ring.now me durable.now soft from reply.now) }
-{
-    match soft.role {
-        Role::Follower => Ok(idle(alloc, soft)),
-        Role::Candidate => candidate_hears(alloc, ring, me, durable, soft, from, reply),
-        Role::Leader => Ok(idle(alloc, soft)),
+    if counts(term, soft.grants.as_slice(), from, reply) {
+        let Ok(bid) = next_bid(alloc, &soft.grants, from, reply) else {
+            return Err(CoreFault::Memory);
+        };
+        let base = last(view)?;
+        let pairs = prepared.pairs().as_slice();
+        let pending = soft.pending.as_slice();
+        let candidate = Candidate {
+            ring,
+            me,
+            term,
+            applied,
+            pairs,
+            commit: soft.commit,
+            pending,
+        };
+        let election = lead_or_ask(alloc, view, base, &candidate, bid)?;
+        return Ok(settle(soft, election));
     }
+    Ok(idle(alloc))
 }

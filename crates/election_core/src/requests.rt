@@ -1,215 +1,245 @@
-ghost use Rattle.std.specs.Prelude.{◌≡◌, ◌++◌, ◌∷◌, [], None, Some, IfOk, if◌then◌else◌, ◌==◌};
-ghost use Rattle.ring_model.specs.Steps as steps;
-ghost use Rattle.ring_model.specs.declared.effects.Action.TheVariants as action;
+ghost use Rattle.std.specs.Prelude.{◌≡◌, ◌≤◌, ◌++◌, ◌∷◌, [], not, IfOk, IfSome, OnErr};
+ghost use Rattle.ring_types.specs.Rings.{votes};
+ghost use Rattle.edge_traits.specs.Views.{Keeps};
 ghost use Rattle.ring_model.specs.Elections as spec;
+ghost use Rattle.ring_model.specs.declared.effects.Action.TheVariants as action;
+ghost use Rattle.commit_pipeline.specs.Faults.{CoreFails};
+ghost use Rattle.commit_pipeline.specs.Heres.{StandsForNode, durable_of};
+ghost use Rattle.election_core.specs.Verdicts as own;
 
-use crate::standing::{floor_of, new_vote};
-use commit_pipeline::{Begun, adopt, all_done, demoted, has_room, idle, message, stepped, vote_in};
-use flexi_quorum::votes_between;
-use ring_model::{Action, Body, Durable, Message, RequestVote, Soft, Step, VoteReply};
-use ring_types::{Duplicate, List, Memory, NodeId, Ring, Vote, at_least, last};
+use crate::voting::{new_vote, votes_left};
+use commit_pipeline::{Begun, Here, demote, idle, last, message, term_at, unknowns};
+use edge_traits::LogView;
+use ring_model::{Action, Body, CoreFault, Message, Plan, RequestVote, Soft, VoteReply};
+use ring_types::{List, Memory, NodeId, Ring, Vote, at_least};
 use std::alloc::Global;
+use vote_history::History;
 
-fn refuse_vote(alloc: Global, me: NodeId, to: NodeId, term: u64) -> Message
-    ensures { result ≡ spec.refuse_vote me to term }
-{
-    let reply = VoteReply {
-        term,
-        granted: false,
-        votes: List::new(alloc),
-    };
-    message(me, to, Body::VoteReply(reply))
+/// How a voter answers a request of its own term.
+#[derive(Clone, Copy)]
+enum Verdict {
+    Refuse,
+    /// The candidate has the vote of this term already.
+    Again,
+    /// A new vote, for which those up to the floor are dropped.
+    Cast { floor: u64 },
 }
 
-/// The vote, with what the voter reports of terms strictly between the candidate's last and the
-/// present one.
-fn grant_vote(
-    alloc: Global,
-    me: NodeId,
-    to: NodeId,
+/// A voter: its ring and number, and the votes that it keeps.
+#[derive(Drop)]
+struct Voter<'a> {
+    pub ring: &'a Ring,
+    pub me: NodeId,
+    pub history: &'a History,
+}
+
+/// Whether the node makes nothing of a request: a learner has no vote.
+fn is_silent(ring: &Ring, me: NodeId) -> bool
+    ensures { result ≡ not (votes ring.now me) }
+{
+    !ring.voter(me)
+}
+
+/// The verdict of a voter that keeps a vote for the term: the same candidate has it again.
+fn judge_again(candidate: NodeId, from: NodeId) -> Verdict
+    ensures { result ≡ own.judged_again candidate from }
+{
+    if candidate == from {
+        Verdict::Again
+    } else {
+        Verdict::Refuse
+    }
+}
+
+/// The verdict of a voter that keeps no vote for the term.
+fn judge_anew<V: LogView>(
+    view: &mut V,
+    history: &History,
+    commit: u64,
     asked: &RequestVote,
-    after: &Durable,
-) -> Result<Message, Memory>
-    ensures { IfOk result (λ it. it ≡ spec.grant_vote me to asked.now after.now) }
+) -> Result<Verdict, CoreFault>
+    requires stands { V.stands view.old }
+    requires inside { commit ≤ (V.sees view.old).length }
+    ensures told { IfSome (V.sees view.old).log (λ log. IfOk result (λ it. it ≡ own.judged_anew history.now log commit asked.now)) }
+    ensures keeps { Keeps V.sees V.behind V.stands V.faults view.old view.new }
+    ensures failed { CoreFails (V.faults view.old) (V.faults view.new) result }
 {
-    let reply = VoteReply {
-        term: asked.term,
-        granted: true,
-        votes: votes_between(alloc, asked.last.term, asked.term, after.votes.as_slice())?,
-    };
-    Ok(message(me, to, Body::VoteReply(reply)))
+    let end = last(view)?;
+    if at_least(asked.last, end) {
+        let floor = term_at(view, commit)?;
+        if history.room(floor) {
+            return Ok(Verdict::Cast { floor });
+        }
+    }
+    Ok(Verdict::Refuse)
 }
 
-fn granted_now(
-    alloc: Global,
-    me: NodeId,
-    durable: &Durable,
-    soft: Soft,
-    begun: Begun,
+fn judge<V: LogView>(
+    view: &mut V,
+    history: &History,
+    commit: u64,
     from: NodeId,
     asked: &RequestVote,
-) -> Result<Step, Memory>
-    ensures { IfOk result (λ it. it ≡ spec.granted_now me durable.now soft begun.actions begun.says from asked.now) }
+) -> Result<Verdict, CoreFault>
+    requires stands { V.stands view.old }
+    requires inside { commit ≤ (V.sees view.old).length }
+    ensures told { IfSome (V.sees view.old).log (λ log. IfOk result (λ it. it ≡ own.judged history.now log commit from asked.now)) }
+    ensures keeps { Keeps V.sees V.behind V.stands V.faults view.old view.new }
+    ensures failed { CoreFails (V.faults view.old) (V.faults view.new) result }
 {
-    let Begun { actions, says } = begun;
-    let after = all_done(alloc, durable.copy(alloc)?, actions.as_slice())?;
-    let messages = List::of_one(alloc, grant_vote(alloc, me, from, asked, &after)?)?;
-    Ok(stepped(actions, messages, says, soft))
+    match history.vote_in(asked.term) {
+        Some(candidate) => Ok(judge_again(candidate, from)),
+        None => judge_anew(view, history, commit, asked),
+    }
 }
 
 fn refused_now(
     alloc: Global,
     me: NodeId,
-    soft: Soft,
-    begun: Begun,
-    from: NodeId,
+    to: NodeId,
     term: u64,
-) -> Result<Step, Memory>
-    ensures { IfOk result (λ it. it ≡ spec.refused_now me soft begun.actions begun.says from term) }
+    begun: Begun,
+) -> Result<Plan, Memory>
+    ensures { IfOk result (λ it. it ≡ own.replied begun (spec.refuse_vote me to term)) }
 {
     let Begun { actions, says } = begun;
-    let messages = List::of_one(alloc, refuse_vote(alloc, me, from, term))?;
-    Ok(stepped(actions, messages, says, soft))
+    let reply = VoteReply {
+        term,
+        granted: false,
+        votes: List::new(alloc),
+    };
+    let messages = List::of_one(alloc, message(me, to, Body::VoteReply(reply)))?;
+    Ok(Plan {
+        actions,
+        messages,
+        says,
+    })
 }
 
-fn cast_actions(
-    ring: &Ring,
-    durable: &Durable,
-    soft: &Soft,
-    actions: List<Action>,
-    from: NodeId,
+fn granted_now(
+    alloc: Global,
+    me: NodeId,
+    to: NodeId,
     term: u64,
-) -> Result<List<Action>, Memory>
-    ensures { IfOk result (λ it. it ≡ spec.cast_actions ring.now durable.now soft.now actions from term) }
+    votes: List<Vote>,
+    begun: Begun,
+) -> Result<Plan, Memory>
+    ensures { IfOk result (λ it. it ≡ own.replied begun (own.grant_of me to term votes)) }
 {
+    let Begun { actions, says } = begun;
+    let reply = VoteReply {
+        term,
+        granted: true,
+        votes,
+    };
+    let messages = List::of_one(alloc, message(me, to, Body::VoteReply(reply)))?;
+    Ok(Plan {
+        actions,
+        messages,
+        says,
+    })
+}
+
+/// What stands first in the plan, and after it the vote.
+fn with_vote(begun: Begun, vote: Vote, floor: u64) -> Result<Begun, Memory>
+    ensures { IfOk result (λ it. it ≡ record { actions = begun.actions ++ action.Vote vote floor ∷ []; says = begun.says }) }
+{
+    let Begun { actions, says } = begun;
     let mut actions = actions;
-    actions.push(Action::Vote {
-        vote: new_vote(ring, term, from),
-        floor: floor_of(durable, soft),
-    })?;
-    Ok(actions)
+    actions.push(Action::Vote { vote, floor })?;
+    Ok(Begun { actions, says })
 }
 
-/// The reply of a node that keeps a vote for the term: the same candidate has it again.
-fn answer_again(
+/// The plan of a voter by its verdict. With its vote it reports those of terms strictly between the
+/// candidate's last and the present one.
+fn answer(
     alloc: Global,
-    me: NodeId,
-    durable: &Durable,
-    soft: Soft,
-    begun: Begun,
+    voter: &Voter<'_>,
     from: NodeId,
     asked: &RequestVote,
-    kept: Vote,
-) -> Result<Step, Memory>
-    ensures { IfOk result (λ it. it ≡ (if kept.candidate == from then spec.granted_now me durable.now soft begun.actions begun.says from asked.now else spec.refused_now me soft begun.actions begun.says from asked.now.term)) }
-{
-    if kept.candidate == from {
-        granted_now(alloc, me, durable, soft, begun, from, asked)
-    } else {
-        refused_now(alloc, me, soft, begun, from, asked.term)
-    }
-}
-
-/// The reply of a node that keeps no vote for the term.
-fn answer_anew(
-    alloc: Global,
-    ring: &Ring,
-    me: NodeId,
-    durable: &Durable,
-    soft: Soft,
     begun: Begun,
-    from: NodeId,
-    asked: &RequestVote,
-) -> Result<Step, Memory>
-    ensures { IfOk result (λ it. it ≡ spec.answer_by ring.now me durable.now soft begun.actions begun.says from asked.now None) }
+    verdict: Verdict,
+) -> Result<Plan, Memory>
+    ensures { IfOk result (λ it. it ≡ own.answered voter.now.ring.now voter.now.me voter.now.history.now from asked.now begun verdict) }
 {
-    if at_least(asked.last, last(durable.log.as_slice())) {
-        if has_room(floor_of(durable, &soft), durable.votes.as_slice()) {
-            let Begun { actions, says } = begun;
-            let actions = cast_actions(ring, durable, &soft, actions, from, asked.term)?;
-            let begun = Begun { actions, says };
-            granted_now(alloc, me, durable, soft, begun, from, asked)
-        } else {
-            refused_now(alloc, me, soft, begun, from, asked.term)
+    let me = voter.me;
+    let term = asked.term;
+    let low = asked.last.term;
+    match verdict {
+        Verdict::Refuse => refused_now(alloc, me, from, term, begun),
+        Verdict::Again => {
+            let votes = voter.history.between(alloc, low, term)?;
+            granted_now(alloc, me, from, term, votes, begun)
         }
+        Verdict::Cast { floor } => {
+            let votes = votes_left(alloc, voter.history, floor, low, term)?;
+            let begun = with_vote(begun, new_vote(voter.ring, term, from), floor)?;
+            granted_now(alloc, me, from, term, votes, begun)
+        }
+    }
+}
+
+/// What stands first in the plan of a voter: where the request's term is later, it is adopted.
+fn begin(alloc: Global, later: bool, term: u64, soft: &Soft) -> Result<Begun, Memory>
+    ensures { IfOk result (λ it. it ≡ own.begun_at later term soft.now) }
+{
+    if later {
+        let actions = List::of_one(alloc, Action::SetTerm(term))?;
+        let says = unknowns(alloc, soft)?;
+        Ok(Begun { actions, says })
     } else {
-        refused_now(alloc, me, soft, begun, from, asked.term)
+        Ok(Begun::nothing(alloc))
     }
 }
 
-/// The reply of a node that has the term of the request, after what comes first.
-fn answer_request(
-    alloc: Global,
-    ring: &Ring,
-    me: NodeId,
-    durable: &Durable,
-    soft: Soft,
-    begun: Begun,
-    from: NodeId,
-    asked: &RequestVote,
-) -> Result<Step, Memory>
-    ensures { IfOk result (λ it. it ≡ spec.answer_request ring.now me durable.now soft begun.actions begun.says from asked.now) }
+fn step_down(alloc: Global, later: bool, soft: &mut Soft)
+    ensures { soft.new ≡ own.stepped_down later soft.old }
 {
-    match vote_in(durable.votes.as_slice(), asked.term) {
-        Some(kept) => answer_again(alloc, me, durable, soft, begun, from, asked, kept),
-        None => answer_anew(alloc, ring, me, durable, soft, begun, from, asked),
+    if later {
+        demote(alloc, soft);
     }
 }
 
-/// The reply of a node that adopts the greater term of the request.
-fn answer_later(
+/// The plan of a node that is asked for its vote by the candidate `from`.
+pub fn on_request<'a, V: LogView>(
     alloc: Global,
-    ring: &Ring,
-    me: NodeId,
-    durable: &Durable,
-    soft: Soft,
+    here: Here<'a, V>,
+    soft: &mut Soft,
     from: NodeId,
     asked: &RequestVote,
-) -> Result<Step, Memory>
-    ensures { IfOk result (λ it. it ≡ spec.answer_request ring.now me durable.now (steps.demoted soft) (action.SetTerm asked.now.term ∷ []) (steps.unknowns soft) from asked.now) }
+) -> Result<Plan, CoreFault>
+    requires node { StandsForNode V.stands V.sees here soft.old }
+    ensures told { IfSome (V.sees here.entry.view.now).log (λ log. IfOk result (λ it. spec.on_request here.entry.ring.now here.entry.me (durable_of here.entry log) soft.old from asked.now ≡ record { plan = it; soft = soft.new })) }
+    ensures stays { OnErr result (soft.new ≡ soft.old) }
+    ensures keeps { Keeps V.sees V.behind V.stands V.faults here.entry.view.now here.exit.0.now }
+    ensures failed { CoreFails (V.faults here.entry.view.now) (V.faults here.exit.0.now) result }
 {
-    let begun = adopt(alloc, &soft, asked.term)?;
-    let soft = demoted(alloc, soft);
-    answer_request(alloc, ring, me, durable, soft, begun, from, asked)
-}
-
-fn voter_answers(
-    alloc: Global,
-    ring: &Ring,
-    me: NodeId,
-    durable: &Durable,
-    soft: Soft,
-    from: NodeId,
-    asked: &RequestVote,
-) -> Result<Step, Memory>
-    ensures { IfOk result (λ it. it ≡ spec.voter_answers ring.now me durable.now soft from asked.now) }
-{
-    if asked.term < durable.term {
-        refused_now(alloc, me, soft, Begun::nothing(alloc), from, durable.term)
-    } else if durable.term < asked.term {
-        answer_later(alloc, ring, me, durable, soft, from, asked)
-    } else {
-        let begun = Begun::nothing(alloc);
-        answer_request(alloc, ring, me, durable, soft, begun, from, asked)
+    let Here {
+        view,
+        ring,
+        me,
+        term,
+        history,
+        ..
+    } = here;
+    if is_silent(ring, me) {
+        return Ok(idle(alloc));
     }
-}
-
-/// The step of a node that is asked for its vote by the candidate `from`.
-#[tactic(auto, unfolding(ring_model::specs::Elections::on_request))]
-pub fn on_request(
-    alloc: Global,
-    ring: &Ring,
-    me: NodeId,
-    durable: &Durable,
-    soft: Soft,
-    from: NodeId,
-    asked: &RequestVote,
-) -> Result<Step, Memory>
-    ensures { IfOk result (λ it. it ≡ spec.on_request ring.now me durable.now soft from asked.now) }
-{
-    if ring.voter(me) {
-        voter_answers(alloc, ring, me, durable, soft, from, asked)
-    } else {
-        Ok(idle(alloc, soft))
+    if asked.term < term {
+        let Ok(plan) = refused_now(alloc, me, from, term, Begun::nothing(alloc)) else {
+            return Err(CoreFault::Memory);
+        };
+        return Ok(plan);
     }
+    let later = term < asked.term;
+    let verdict = judge(view, history, soft.commit, from, asked)?;
+    let Ok(begun) = begin(alloc, later, asked.term, soft) else {
+        return Err(CoreFault::Memory);
+    };
+    let voter = Voter { ring, me, history };
+    let Ok(plan) = answer(alloc, &voter, from, asked, begun, verdict) else {
+        return Err(CoreFault::Memory);
+    };
+    step_down(alloc, later, soft);
+    Ok(plan)
 }

@@ -42,8 +42,8 @@ fn new_replay(alloc: Global, ring: &Ring) -> Result<Replay, Stop>
     }
 }
 
-fn report_after(alloc: Global, ring: &Ring, replay: &Replay) -> Result<List<u8>, Stop>
-    ensures text { IfOk result (λ text. text ≡ report ring.now replay.now.world) }
+fn report_after(alloc: Global, ring: &Ring, replay: Replay) -> Result<List<u8>, Stop>
+    ensures text { IfOk result (λ text. text ≡ report ring.now replay.world) }
     ensures memory { IfErr result (λ stop. stop ≡ Stop.Memory) }
 {
     let world = replay.finish(alloc).map_err(|_| Stop::Memory)?;
@@ -60,5 +60,5 @@ pub(crate) fn replayed(alloc: Global, ring: &Ring, events: &[Event]) -> Result<L
     for event in events {
         take_event(alloc, ring, &mut replay, event)?;
     }
-    report_after(alloc, ring, &replay)
+    report_after(alloc, ring, replay)
 }

@@ -1,1 +1,3 @@
-pub mod Halves
+pub mod Acting
+pub mod Standing
+pub mod Torn

@@ -62,7 +62,9 @@ impl Prepared {
         }
     }
 
-    fn keep(&mut self, pair: Pair) -> Result<(), Memory>
+    /// Keeps a pair of which nobody holds a key, and locks its keys. Without memory everything stays
+    /// as it was.
+    pub fn keep(&mut self, pair: Pair) -> Result<(), Memory>
         requires { conflict_from 0 self.old pair.txn.changes ≡ None }
         ensures ok { OnOk result (self.new ≡ self.old ++ pair ∷ []) }
         ensures err { OnErr result (self.new ≡ self.old) }

@@ -1,17 +1,31 @@
-ghost use Rattle.std.specs.Prelude.{◌≡◌, ◌^◌, ◌<◌, ◌++◌, ◌∷◌, [], false, IfOk};
-ghost use Rattle.ring_model.specs.Actions as acts;
-ghost use Rattle.ring_model.specs.Steps as steps;
+ghost use Rattle.std.specs.Prelude.{◌≡◌, ◌+◌, ◌<◌, ◌≤◌, ◌==◌, ◌&&◌, nat_lt, [], false, None, IfOk, IfSome, OnErr, length};
+ghost use Rattle.ring_types.specs.declared.limits.TheConstants.{LAST_FILE, TERM_END};
+ghost use Rattle.ring_types.specs.Logs as logs;
+ghost use Rattle.edge_traits.specs.Views.{Keeps};
+ghost use Rattle.ring_model.specs.Nodes as nodes;
 ghost use Rattle.ring_model.specs.Replication as spec;
-ghost use Rattle.ring_model.specs.declared.effects.Action.TheVariants as action;
+ghost use Rattle.ring_model.specs.WellFormed.{EntriesFit};
+ghost use Rattle.commit_pipeline.specs.Faults.{CoreFails};
+ghost use Rattle.commit_pipeline.specs.Heres.{StandsForNode, durable_of};
+ghost use Rattle.commit_pipeline.specs.Placed.{IsPlaced};
+ghost use Rattle.replicate_core.specs.Appends as own;
 
-use crate::taking::{kept_position, take_in, unmatched};
+use crate::accepts::{Receiver, accept, last_matched, new_commit};
 use crate::tears::tear_in;
-use commit_pipeline::{
-    Begun, adopt, all_done, demoted, follow_actions, idle, is_leader, message, stepped, unknowns,
+use commit_pipeline::{Begun, Here, demote, idle, is_leader, last, message, term_at, unknowns};
+use edge_traits::LogView;
+use ring_model::{
+    Action, Append, AppendReply, Body, CoreFault, Message, Plan, Role, Say, Soft, Tear,
 };
-use ring_model::{Action, Append, AppendReply, Body, Durable, Message, Role, Say, Soft, Step};
-use ring_types::{Duplicate, Entry, LAST_FILE, List, Memory, NodeId, Ring, rotates, term_at};
+use ring_types::{LAST_FILE, List, Memory, NodeId, rotates};
 use std::alloc::Global;
+
+/// The plan of a member that is sent entries, and its commit count after it.
+#[derive(Drop)]
+struct Matched {
+    plan: Plan,
+    commit: u64,
+}
 
 fn reply(me: NodeId, to: NodeId, term: u64, ok: bool, position: u64) -> Message
     ensures { result ≡ spec.reply me to term ok position }
@@ -23,229 +37,216 @@ fn reply(me: NodeId, to: NodeId, term: u64, ok: bool, position: u64) -> Message
     )
 }
 
-/// The step with one reply to the leader that the message names.
-fn replied(alloc: Global, begun: Begun, reply: Message, soft: Soft) -> Result<Step, Memory>
-    ensures { IfOk result (λ it. it ≡ steps.stepped begun.actions (reply ∷ []) begun.says soft) }
+/// The plan with one reply to the leader that the message names.
+fn reply_plan(alloc: Global, begun: Begun, reply: Message) -> Result<Plan, Memory>
+    ensures { IfOk result (λ it. it ≡ own.reply_plan begun.actions reply begun.says) }
 {
     let Begun { actions, says } = begun;
     let messages = List::of_one(alloc, reply)?;
-    Ok(stepped(actions, messages, says, soft))
+    Ok(Plan {
+        actions,
+        messages,
+        says,
+    })
 }
 
-/// The durable part once both lists of actions are done.
-fn after_both(
-    alloc: Global,
-    durable: &Durable,
-    first: &[Action],
-    taken: &[Action],
-) -> Result<Durable, Memory>
-    ensures { IfOk result (λ it. it ≡ acts.all_done (acts.all_done durable.now first.now) taken.now) }
+fn replied(alloc: Global, begun: Begun, reply: Message, commit: u64) -> Result<Matched, CoreFault>
+    ensures told { IfOk result (λ it. it ≡ record { plan = own.reply_plan begun.actions reply begun.says; commit = commit }) }
+    ensures failed { CoreFails 0 0 result }
 {
-    let after = all_done(alloc, durable.copy(alloc)?, first)?;
-    all_done(alloc, after, taken)
-}
-
-/// The actions that come first, those that take the entries in, and those by which the engine
-/// follows.
-fn all_actions(
-    alloc: Global,
-    ring: &Ring,
-    me: NodeId,
-    durable: &Durable,
-    first: List<Action>,
-    taken: List<Action>,
-    commit: u64,
-) -> Result<List<Action>, Memory>
-    ensures { IfOk result (λ it. it ≡ first ++ (taken ++ steps.follow_actions ring.now me (acts.all_done (acts.all_done durable.now first) taken) commit)) }
-{
-    let after = after_both(alloc, durable, first.as_slice(), taken.as_slice())?;
-    let follow = follow_actions(alloc, ring, me, &after, commit)?;
-    let mut actions = first;
-    let mut more = taken;
-    more.append(follow)?;
-    actions.append(more)?;
-    Ok(actions)
-}
-
-fn accept_with(
-    alloc: Global,
-    ring: &Ring,
-    me: NodeId,
-    durable: &Durable,
-    soft: Soft,
-    begun: Begun,
-    sent: &Append,
-    taken: List<Action>,
-) -> Result<Step, Memory>
-    requires { sent.now.prev.position < 2 ^ 63 }
-    ensures { IfOk result (λ it. it ≡ spec.accept_with ring.now me durable.now soft begun.actions begun.says sent.now taken) }
-{
-    let Begun { actions, says } = begun;
-    let last_matched = sent.prev.position + sent.entries.as_slice().len() as u64;
-    let commit = soft.commit.max(sent.commit.min(last_matched));
-    let actions = all_actions(alloc, ring, me, durable, actions, taken, commit)?;
-    let reply = reply(me, sent.leader, sent.term, true, last_matched);
-    let soft = Soft { commit, ..soft };
-    replied(alloc, Begun { actions, says }, reply, soft)
-}
-
-fn accept(
-    alloc: Global,
-    ring: &Ring,
-    me: NodeId,
-    durable: &Durable,
-    soft: Soft,
-    begun: Begun,
-    sent: &Append,
-) -> Result<Step, Memory>
-    requires { sent.now.prev.position < 2 ^ 63 }
-    ensures { IfOk result (λ it. it ≡ spec.accept ring.now me durable.now soft begun.actions begun.says sent.now) }
-{
-    let entries = sent.entries.as_slice();
-    let rest = unmatched(durable.log.as_slice(), sent.prev.position, entries);
-    let kept = kept_position(sent.prev, entries, rest);
-    let taken = take_in(alloc, ring, me, durable, kept, rest)?;
-    accept_with(alloc, ring, me, durable, soft, begun, sent, taken)
+    match reply_plan(alloc, begun, reply) {
+        Ok(plan) => Ok(Matched { plan, commit }),
+        Err(_) => Err(CoreFault::Memory),
+    }
 }
 
 /// The previous opid has to be in the log; else the leader is told from where to send.
-fn match_append(
+fn match_append<V: LogView>(
     alloc: Global,
-    ring: &Ring,
-    me: NodeId,
-    durable: &Durable,
-    soft: Soft,
+    view: &mut V,
+    receiver: &Receiver<'_>,
+    sent: &Append,
     begun: Begun,
-    sent: &Append,
-) -> Result<Step, Memory>
-    ensures { IfOk result (λ it. it ≡ spec.match_append ring.now me durable.now soft begun.actions begun.says sent.now) }
+) -> Result<Matched, CoreFault>
+    requires stands { V.stands view.old }
+    requires sent { EntriesFit (V.sees view.old).schema sent.now }
+    requires whole { IfSome (V.sees view.old).log (λ log. length log ≡ (V.sees view.old).length) }
+    requires placed { IfSome (V.sees view.old).log IsPlaced }
+    requires end { receiver.now.end ≡ (V.sees view.old).length }
+    requires commit { receiver.now.commit ≤ receiver.now.end }
+    requires applied { receiver.now.applied ≤ receiver.now.commit }
+    requires fits { receiver.now.end < TERM_END }
+    requires sound { IfSome (V.sees view.old).log (λ log. sent.now.prev.position < receiver.now.commit → spec.first_tear log receiver.now.commit (sent.now.prev.position + 1) (spec.terms_of sent.now.entries) ≡ None) }
+    ensures told { IfSome (V.sees view.old).log (λ log. IfOk result (λ it. it ≡ own.matched_by receiver.now log begun sent.now)) }
+    ensures keeps { Keeps V.sees V.behind V.stands V.faults view.old view.new }
+    ensures failed { CoreFails (V.faults view.old) (V.faults view.new) result }
 {
-    let log = durable.log.as_slice();
     let prev = sent.prev;
-    if (log.len() as u64) < prev.position {
-        let reply = reply(me, sent.leader, sent.term, false, log.len() as u64);
-        replied(alloc, begun, reply, soft)
-    } else if term_at(log, prev.position) == prev.term {
-        accept(alloc, ring, me, durable, soft, begun, sent)
-    } else {
+    if receiver.end < prev.position {
+        let reply = reply(receiver.me, sent.leader, sent.term, false, receiver.end);
+        return replied(alloc, begun, reply, receiver.commit);
+    }
+    if term_at(view, prev.position)? != prev.term {
         let position = prev.position.saturating_sub(1);
-        let reply = reply(me, sent.leader, sent.term, false, position);
-        replied(alloc, begun, reply, soft)
+        let reply = reply(receiver.me, sent.leader, sent.term, false, position);
+        return replied(alloc, begun, reply, receiver.commit);
+    }
+    let Begun { actions, says } = begun;
+    let actions = accept(alloc, view, receiver, sent, actions)?;
+    let position = last_matched(sent);
+    let reply = reply(receiver.me, sent.leader, sent.term, true, position);
+    let commit = new_commit(receiver.commit, sent);
+    replied(alloc, Begun { actions, says }, reply, commit)
+}
+
+/// The action that adopts the message's term, if it is greater.
+fn first_of(alloc: Global, term: u64, sent: &Append) -> Result<List<Action>, Memory>
+    ensures { IfOk result (λ it. it ≡ own.first_of term sent.now) }
+{
+    let mut actions = List::new(alloc);
+    if term < sent.term {
+        actions.push(Action::SetTerm(sent.term))?;
+    }
+    Ok(actions)
+}
+
+fn is_candidate(role: Role) -> bool
+    ensures { result ≡ own.is_candidate role }
+{
+    match role {
+        Role::Follower => false,
+        Role::Candidate => true,
+        Role::Leader => false,
     }
 }
 
-/// The message's term is greater: adopt it, step down, then match.
-fn follow_greater(
-    alloc: Global,
-    ring: &Ring,
-    me: NodeId,
-    durable: &Durable,
-    soft: Soft,
-    sent: &Append,
-) -> Result<Step, Memory>
-    ensures { IfOk result (λ it. it ≡ spec.match_append ring.now me durable.now (steps.demoted soft) (action.SetTerm sent.now.term ∷ []) (steps.unknowns soft) sent.now) }
+/// Whether the node steps down: the message's term is greater, or a candidate hears of the leader of
+/// its own term.
+fn steps_down(term: u64, soft: &Soft, sent: &Append) -> bool
+    ensures { result ≡ own.steps_down term soft.now sent.now }
 {
-    let begun = adopt(alloc, &soft, sent.term)?;
-    let soft = demoted(alloc, soft);
-    match_append(alloc, ring, me, durable, soft, begun, sent)
+    term < sent.term || is_candidate(soft.role)
 }
 
-/// The message's term is the candidate's own: step down, then match.
-fn follow_equal(
-    alloc: Global,
-    ring: &Ring,
-    me: NodeId,
-    durable: &Durable,
-    soft: Soft,
-    sent: &Append,
-) -> Result<Step, Memory>
-    ensures { IfOk result (λ it. it ≡ spec.match_append ring.now me durable.now (steps.demoted soft) [] (steps.unknowns soft) sent.now) }
+fn says_of(alloc: Global, term: u64, soft: &Soft, sent: &Append) -> Result<List<Say>, Memory>
+    ensures { IfOk result (λ it. it ≡ own.says_of term soft.now sent.now) }
 {
-    let begun = Begun {
-        actions: List::new(alloc),
-        says: unknowns(alloc, &soft)?,
-    };
-    let soft = demoted(alloc, soft);
-    match_append(alloc, ring, me, durable, soft, begun, sent)
+    if steps_down(term, soft, sent) {
+        unknowns(alloc, soft)
+    } else {
+        Ok(List::new(alloc))
+    }
 }
 
-/// The step on a message whose term is not below the node's, and that is not torn.
-fn follow_append(
-    alloc: Global,
-    ring: &Ring,
-    me: NodeId,
-    durable: &Durable,
-    soft: Soft,
-    sent: &Append,
-) -> Result<Step, Memory>
-    ensures { IfOk result (λ it. it ≡ spec.follow_append ring.now me durable.now soft sent.now) }
+/// What comes first: the greater term is adopted, and a node that steps down says of its pending
+/// writes that it does not know.
+fn begin(alloc: Global, term: u64, soft: &Soft, sent: &Append) -> Result<Begun, Memory>
+    ensures { IfOk result (λ it. it ≡ record { actions = own.first_of term sent.now; says = own.says_of term soft.now sent.now }) }
 {
-    if durable.term < sent.term {
-        return follow_greater(alloc, ring, me, durable, soft, sent);
-    }
-    match soft.role {
-        Role::Follower => {
-            let begun = Begun::nothing(alloc);
-            match_append(alloc, ring, me, durable, soft, begun, sent)
-        }
-        Role::Candidate => follow_equal(alloc, ring, me, durable, soft, sent),
-        Role::Leader => Ok(idle(alloc, soft)),
-    }
+    Ok(Begun {
+        actions: first_of(alloc, term, sent)?,
+        says: says_of(alloc, term, soft, sent)?,
+    })
 }
 
 /// Whether the log would end more binary log files than there may be.
-fn outgrows(durable: &Durable, sent: &Append) -> bool
-    ensures { result ≡ spec.outgrows durable.now sent.now }
+fn outgrows(file: u32, sent: &Append) -> bool
+    ensures { result ≡ nat_lt LAST_FILE (file + logs.rotates sent.now.entries) }
 {
-    let kept = rotates(durable.log.as_slice());
-    let more = rotates(sent.entries.as_slice());
-    LAST_FILE <= kept.saturating_add(more)
+    LAST_FILE < (file as u64).saturating_add(rotates(sent.entries.as_slice()))
 }
 
 /// Whether the message is of the term that the node leads.
-fn leads_it(durable: &Durable, soft: &Soft, sent: &Append) -> bool
-    ensures { result ≡ spec.leads_it durable.now soft.now sent.now }
+fn leads_it(term: u64, soft: &Soft, sent: &Append) -> bool
+    ensures { result ≡ (nodes.is_leader soft.now.role && sent.now.term == term) }
 {
-    is_leader(soft.role) && sent.term == durable.term
+    is_leader(soft.role) && sent.term == term
 }
 
 /// The reply to a message of an earlier term.
-fn refuse_earlier(
-    alloc: Global,
-    me: NodeId,
-    durable: &Durable,
-    soft: Soft,
-    sent: &Append,
-) -> Result<Step, Memory>
-    ensures { IfOk result (λ it. it ≡ steps.stepped [] (spec.reply me sent.now.leader durable.now.term false 0 ∷ []) [] soft) }
+fn refuse_earlier(alloc: Global, me: NodeId, term: u64, sent: &Append) -> Result<Plan, CoreFault>
+    ensures told { IfOk result (λ it. it ≡ own.reply_plan [] (spec.reply me sent.now.leader term false 0) []) }
+    ensures failed { CoreFails 0 0 result }
 {
-    let reply = reply(me, sent.leader, durable.term, false, 0);
-    replied(alloc, Begun::nothing(alloc), reply, soft)
+    let reply = reply(me, sent.leader, term, false, 0);
+    match reply_plan(alloc, Begun::nothing(alloc), reply) {
+        Ok(plan) => Ok(plan),
+        Err(_) => Err(CoreFault::Memory),
+    }
 }
 
-/// The step of a node that is sent entries.
-#[tactic(auto, unfolding(ring_model::specs::Replication::on_append))]
-pub fn on_append(
-    alloc: Global,
-    ring: &Ring,
-    me: NodeId,
-    durable: &Durable,
-    soft: Soft,
-    sent: &Append,
-) -> Result<Step, Memory>
-    ensures { IfOk result (λ it. it ≡ spec.on_append ring.now me durable.now soft sent.now) }
+fn torn_at(tear: Tear) -> CoreFault
+    ensures { result ≡ own.torn_at tear }
 {
-    if outgrows(durable, sent) {
-        return Ok(idle(alloc, soft));
+    CoreFault::Torn {
+        position: tear.position,
+        kept_term: tear.kept_term,
+        sent_term: tear.sent_term,
     }
-    if sent.term < durable.term {
-        return refuse_earlier(alloc, me, durable, soft, sent);
+}
+
+/// Steps down where the message asks for it, and takes the commit count.
+fn settle(alloc: Global, soft: &mut Soft, term: u64, sent: &Append, commit: u64)
+    ensures { soft.new ≡ record (own.soft_of term soft.old sent.now) { commit = commit } }
+{
+    if steps_down(term, soft, sent) {
+        demote(alloc, soft);
     }
-    if leads_it(durable, &soft, sent) {
-        return Ok(idle(alloc, soft));
+    soft.commit = commit;
+}
+
+/// The plan of a node that is sent entries.
+pub fn on_append<'a, V: LogView>(
+    alloc: Global,
+    here: Here<'a, V>,
+    soft: &mut Soft,
+    sent: &Append,
+) -> Result<Plan, CoreFault>
+    requires node { StandsForNode V.stands V.sees here soft.old }
+    requires sent { EntriesFit here.ring.now.schema sent.now }
+    ensures told { IfSome (V.sees here.entry.view.now).log (λ log. own.AppendAnswers here.entry.ring.now here.entry.me (durable_of here.entry log) soft.old sent.now soft.new result) }
+    ensures stays { OnErr result (soft.new ≡ soft.old) }
+    ensures keeps { Keeps V.sees V.behind V.stands V.faults here.entry.view.now here.exit.0.now }
+    ensures failed { own.AppendFails (V.faults here.entry.view.now) (V.faults here.exit.0.now) result }
+{
+    let Here {
+        view,
+        ring,
+        me,
+        term,
+        applied,
+        prepared,
+        file,
+        ..
+    } = here;
+    if outgrows(file, sent) {
+        return Ok(idle(alloc));
     }
-    match tear_in(durable, &soft, sent) {
-        Some(_) => Ok(idle(alloc, soft)),
-        None => follow_append(alloc, ring, me, durable, soft, sent),
+    if sent.term < term {
+        return refuse_earlier(alloc, me, term, sent);
     }
+    if leads_it(term, soft, sent) {
+        return Ok(idle(alloc));
+    }
+    let torn = tear_in(view, soft.commit, sent.prev, sent.entries.as_slice())?;
+    match torn {
+        Some(tear) => return Err(torn_at(tear)),
+        None => {}
+    }
+    let end = last(view)?.position;
+    let Ok(begun) = begin(alloc, term, soft, sent) else {
+        return Err(CoreFault::Memory);
+    };
+    let receiver = Receiver {
+        ring,
+        me,
+        end,
+        applied,
+        pairs: prepared.pairs().as_slice(),
+        commit: soft.commit,
+    };
+    let matched = match_append(alloc, view, &receiver, sent, begun)?;
+    let Matched { plan, commit } = matched;
+    settle(alloc, soft, term, sent, commit);
+    Ok(plan)
 }

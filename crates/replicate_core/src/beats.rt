@@ -1,44 +1,75 @@
-ghost use Rattle.std.specs.Prelude.{◌≡◌, ◌-◌, ◌≤◌, IfOk, drop, if◌then◌else◌, map};
+ghost use Rattle.std.specs.Prelude.{◌≡◌, ◌+◌, ◌-◌, ◌<◌, ◌≤◌, IfOk, IfSome, OnErr, drop, if◌then◌else◌, length, map};
+ghost use Rattle.std.specs.List.{All};
 ghost use Rattle.std.specs.Option.{option_copied};
+ghost use Rattle.ring_types.specs.declared.limits.TheConstants.{TERM_END};
+ghost use Rattle.ring_types.specs.Logs as logs;
 ghost use Rattle.ring_types.specs.Rings.{proxy_of};
+ghost use Rattle.edge_traits.specs.Views.{Keeps};
+ghost use Rattle.ring_model.specs.Nodes.{PeerFits};
 ghost use Rattle.ring_model.specs.Replication as spec;
+ghost use Rattle.commit_pipeline.specs.Faults.{CoreFails};
+ghost use Rattle.commit_pipeline.specs.Heres.{StandsForNode, durable_of};
+ghost use Rattle.replicate_core.specs.Beats as own;
 
-use commit_pipeline::{idle, is_leader, message, stepped};
-use ring_model::{Append, Body, Durable, Message, Peer, ProxyAppend, Soft, Step};
+use commit_pipeline::{Here, entry_at, idle, is_leader, last, message, term_at};
+use edge_traits::LogView;
+use ring_model::{Append, Body, CoreFault, Message, Peer, Plan, ProxyAppend, Soft};
 use ring_plain::group_size;
 use ring_types::{
-    BATCH_BYTES, BATCH_ENTRIES, Duplicate, Entry, List, Member, Memory, NodeId, Opid, RegionId,
-    Ring, SILENT_BEATS, Schema, first_of, term_at,
+    BATCH_BYTES, BATCH_ENTRIES, Entry, List, Member, Memory, NodeId, Opid, RegionId, Ring,
+    SILENT_BEATS, Schema,
 };
 use std::alloc::Global;
 
-/// How many of these entries one message takes: at most `count`, whose groups have at most `bytes`
-/// bytes together.
-fn batch_length(schema: &Schema, count: usize, bytes: u64, entries: &[Entry]) -> usize
-    ensures value { result ≡ spec.batch_length schema.now count bytes entries.now }
-    ensures within { result ≤ count }
-{
-    if count == 0 {
-        return 0;
-    }
-    match entries {
-        [] => 0,
-        [entry, entries @ ..] => {
-            let size = group_size(schema, &entry.payload);
-            if size <= bytes {
-                1 + batch_length(schema, count - 1, bytes - size, entries)
-            } else {
-                0
-            }
-        }
-    }
+/// A leader that sends, beside its log.
+#[derive(Clone, Copy)]
+struct Sender<'a> {
+    ring: &'a Ring,
+    me: NodeId,
+    term: u64,
+    commit: u64,
+    peers: &'a [Peer],
 }
 
-fn batch_of<'a>(schema: &Schema, entries: &'a [Entry]) -> &'a [Entry]
-    ensures { result.now ≡ spec.batch_of schema.now entries.now }
+/// What one message takes of the log of `end` entries after a position: entries up to a count and a
+/// sum of bytes, ended by the first that does not fit. At most one entry more is read than is taken.
+fn batch_after<V: LogView>(
+    alloc: Global,
+    view: &mut V,
+    schema: &Schema,
+    end: u64,
+    position: u64,
+) -> Result<List<Entry>, CoreFault>
+    requires stands { V.stands view.old }
+    requires end { end ≡ (V.sees view.old).length }
+    requires whole { IfSome (V.sees view.old).log (λ log. length log ≡ (V.sees view.old).length) }
+    requires inside { position ≤ end }
+    requires fits { end < TERM_END }
+    ensures told { IfSome (V.sees view.old).log (λ log. IfOk result (λ it. it ≡ spec.batch_of schema.now (drop position log))) }
+    ensures keeps { Keeps V.sees V.behind V.stands V.faults view.old view.new }
+    ensures failed { CoreFails (V.faults view.old) (V.faults view.new) result }
 {
-    let count = batch_length(schema, BATCH_ENTRIES, BATCH_BYTES, entries);
-    first_of(entries, count as u64)
+    let mut batch = List::new(alloc);
+    let mut at = position;
+    let mut bytes = BATCH_BYTES;
+    let mut left = BATCH_ENTRIES;
+    while left > 0 {
+        if end <= at {
+            return Ok(batch);
+        }
+        let entry = entry_at(view, at + 1)?;
+        let size = group_size(schema, &entry.payload);
+        if bytes < size {
+            return Ok(batch);
+        }
+        let Ok(()) = batch.push(entry) else {
+            return Err(CoreFault::Memory);
+        };
+        at += 1;
+        bytes -= size;
+        left -= 1;
+    }
+    Ok(batch)
 }
 
 fn opids_of(alloc: Global, entries: &[Entry]) -> Result<List<Opid>, Memory>
@@ -93,117 +124,104 @@ fn is_proxied(ring: &Ring, me: NodeId, peers: &[Peer], id: NodeId) -> bool
         && silent_of(peers, proxy) < SILENT_BEATS
 }
 
-fn opid_before(durable: &Durable, next: u64) -> Opid
-    ensures { result ≡ spec.opid_before durable.now.log next }
+fn send_direct(sender: &Sender<'_>, to: NodeId, prev: Opid, entries: List<Entry>) -> Message
+    ensures { result ≡ own.direct sender.now to prev entries }
 {
-    let position = next.saturating_sub(1);
-    Opid {
-        term: term_at(durable.log.as_slice(), position),
-        position,
-    }
-}
-
-/// What one message takes of the log from the position `next` on.
-fn batch_from<'a>(ring: &Ring, durable: &'a Durable, next: u64) -> &'a [Entry]
-    ensures { result.now ≡ spec.batch_of ring.now.schema (drop (next - 1) durable.now.log) }
-{
-    let entries = durable.log.suffix(next.saturating_sub(1));
-    batch_of(ring.schema(), entries)
-}
-
-fn send_direct(
-    alloc: Global,
-    me: NodeId,
-    durable: &Durable,
-    soft: &Soft,
-    to: NodeId,
-    prev: Opid,
-    entries: &[Entry],
-) -> Result<Message, Memory>
-    ensures { IfOk result (λ it. it ≡ spec.send_direct me durable.now soft.now to prev entries.now) }
-{
-    let mut copies = List::new(alloc);
-    copies.extend_copies(alloc, entries)?;
     let sent = Append {
-        term: durable.term,
-        leader: me,
+        term: sender.term,
+        leader: sender.me,
         prev,
-        commit: soft.commit,
-        entries: copies,
+        commit: sender.commit,
+        entries,
     };
-    Ok(message(me, to, Body::Append(sent)))
+    message(sender.me, to, Body::Append(sent))
 }
 
 fn send_proxied(
     alloc: Global,
-    me: NodeId,
+    sender: &Sender<'_>,
     proxy: NodeId,
-    durable: &Durable,
-    soft: &Soft,
     target: NodeId,
     prev: Opid,
-    entries: &[Entry],
+    entries: List<Entry>,
 ) -> Result<Message, Memory>
-    ensures { IfOk result (λ it. it ≡ spec.send_proxied me proxy durable.now soft.now target prev entries.now) }
+    ensures { IfOk result (λ it. it ≡ own.proxied sender.now proxy target prev entries) }
 {
     let sent = ProxyAppend {
-        term: durable.term,
+        term: sender.term,
         target,
         prev,
-        commit: soft.commit,
-        opids: opids_of(alloc, entries)?,
+        commit: sender.commit,
+        opids: opids_of(alloc, entries.as_slice())?,
     };
-    Ok(message(me, proxy, Body::ProxyAppend(sent)))
+    Ok(message(sender.me, proxy, Body::ProxyAppend(sent)))
 }
 
 /// The message to the region's proxy if the member is proxied, else to the member.
 fn send(
     alloc: Global,
-    ring: &Ring,
-    me: NodeId,
-    durable: &Durable,
-    soft: &Soft,
+    sender: &Sender<'_>,
     to: NodeId,
     prev: Opid,
-    entries: &[Entry],
+    entries: List<Entry>,
 ) -> Result<Message, Memory>
-    ensures { IfOk result (λ it. it ≡ (if spec.is_proxied ring.now me soft.now.peers to then spec.send_proxied me (spec.proxy_id ring.now to) durable.now soft.now to prev entries.now else spec.send_direct me durable.now soft.now to prev entries.now)) }
+    ensures { IfOk result (λ it. it ≡ (if spec.is_proxied sender.now.ring.now sender.now.me sender.now.peers.now to then own.proxied sender.now (spec.proxy_id sender.now.ring.now to) to prev entries else own.direct sender.now to prev entries)) }
 {
-    if is_proxied(ring, me, soft.peers.as_slice(), to) {
-        let proxy = proxy_id(ring, to);
-        send_proxied(alloc, me, proxy, durable, soft, to, prev, entries)
+    if is_proxied(sender.ring, sender.me, sender.peers, to) {
+        let proxy = proxy_id(sender.ring, to);
+        send_proxied(alloc, sender, proxy, to, prev, entries)
     } else {
-        send_direct(alloc, me, durable, soft, to, prev, entries)
+        Ok(send_direct(sender, to, prev, entries))
     }
 }
 
-fn beat_to(
+fn beat_to<V: LogView>(
     alloc: Global,
-    ring: &Ring,
-    me: NodeId,
-    durable: &Durable,
-    soft: &Soft,
-    peer: &Peer,
-) -> Result<Message, Memory>
-    ensures { IfOk result (λ it. it ≡ spec.beat_to ring.now me durable.now soft.now peer.now) }
+    view: &mut V,
+    sender: &Sender<'_>,
+    end: u64,
+    peer: Peer,
+) -> Result<Message, CoreFault>
+    requires stands { V.stands view.old }
+    requires end { end ≡ (V.sees view.old).length }
+    requires whole { IfSome (V.sees view.old).log (λ log. length log ≡ (V.sees view.old).length) }
+    requires fits { end < TERM_END }
+    requires peer { PeerFits end peer }
+    ensures told { IfSome (V.sees view.old).log (λ log. IfOk result (λ it. it ≡ own.message_to sender.now log peer)) }
+    ensures keeps { Keeps V.sees V.behind V.stands V.faults view.old view.new }
+    ensures failed { CoreFails (V.faults view.old) (V.faults view.new) result }
 {
-    let prev = opid_before(durable, peer.next);
-    let entries = batch_from(ring, durable, peer.next);
-    send(alloc, ring, me, durable, soft, peer.node, prev, entries)
+    let position = peer.next - 1;
+    let term = term_at(view, position)?;
+    let entries = batch_after(alloc, view, sender.ring.schema(), end, position)?;
+    match send(alloc, sender, peer.node, Opid { term, position }, entries) {
+        Ok(message) => Ok(message),
+        Err(_) => Err(CoreFault::Memory),
+    }
 }
 
-fn all_beats(
+fn all_beats<V: LogView>(
     alloc: Global,
-    ring: &Ring,
-    me: NodeId,
-    durable: &Durable,
-    soft: &Soft,
-) -> Result<List<Message>, Memory>
-    ensures { IfOk result (λ it. it ≡ map (spec.beat_to ring.now me durable.now soft.now) soft.now.peers) }
+    view: &mut V,
+    sender: &Sender<'_>,
+    end: u64,
+) -> Result<List<Message>, CoreFault>
+    requires stands { V.stands view.old }
+    requires end { end ≡ (V.sees view.old).length }
+    requires whole { IfSome (V.sees view.old).log (λ log. length log ≡ (V.sees view.old).length) }
+    requires fits { end < TERM_END }
+    requires peers { All (PeerFits end) sender.now.peers.now }
+    ensures told { IfSome (V.sees view.old).log (λ log. IfOk result (λ it. it ≡ map (own.message_to sender.now log) sender.now.peers.now)) }
+    ensures keeps { Keeps V.sees V.behind V.stands V.faults view.old view.new }
+    ensures failed { CoreFails (V.faults view.old) (V.faults view.new) result }
 {
+    let peers = sender.peers;
     let mut messages = List::new(alloc);
-    for peer in soft.peers.as_slice() {
-        messages.push(beat_to(alloc, ring, me, durable, soft, peer)?)?;
+    for peer in peers {
+        let message = beat_to(alloc, view, sender, end, *peer)?;
+        let Ok(()) = messages.push(message) else {
+            return Err(CoreFault::Memory);
+        };
     }
     Ok(messages)
 }
@@ -228,23 +246,44 @@ fn all_quieter(alloc: Global, peers: &[Peer]) -> Result<List<Peer>, Memory>
     Ok(after)
 }
 
-/// The step of a leader that sends to the other members; nothing on another node.
-#[tactic(auto, unfolding(ring_model::specs::Replication::beat))]
-pub fn beat(
+/// The plan of a leader that sends to the other members; nothing on another node.
+pub fn beat<'a, V: LogView>(
     alloc: Global,
-    ring: &Ring,
-    me: NodeId,
-    durable: &Durable,
-    soft: Soft,
-) -> Result<Step, Memory>
-    ensures { IfOk result (λ it. it ≡ spec.beat ring.now me durable.now soft) }
+    here: Here<'a, V>,
+    soft: &mut Soft,
+) -> Result<Plan, CoreFault>
+    requires node { StandsForNode V.stands V.sees here soft.old }
+    ensures told { IfSome (V.sees here.entry.view.now).log (λ log. IfOk result (λ it. spec.beat here.entry.ring.now here.entry.me (durable_of here.entry log) soft.old ≡ record { plan = it; soft = soft.new })) }
+    ensures stays { OnErr result (soft.new ≡ soft.old) }
+    ensures keeps { Keeps V.sees V.behind V.stands V.faults here.entry.view.now here.exit.0.now }
+    ensures failed { CoreFails (V.faults here.entry.view.now) (V.faults here.exit.0.now) result }
 {
-    if is_leader(soft.role) {
-        let messages = all_beats(alloc, ring, me, durable, &soft)?;
-        let peers = all_quieter(alloc, soft.peers.as_slice())?;
-        let soft = Soft { peers, ..soft };
-        Ok(stepped(List::new(alloc), messages, List::new(alloc), soft))
-    } else {
-        Ok(idle(alloc, soft))
+    let Here {
+        view,
+        ring,
+        me,
+        term,
+        ..
+    } = here;
+    if !is_leader(soft.role) {
+        return Ok(idle(alloc));
     }
+    let end = last(view)?.position;
+    let sender = Sender {
+        ring,
+        me,
+        term,
+        commit: soft.commit,
+        peers: soft.peers.as_slice(),
+    };
+    let messages = all_beats(alloc, view, &sender, end)?;
+    let Ok(peers) = all_quieter(alloc, soft.peers.as_slice()) else {
+        return Err(CoreFault::Memory);
+    };
+    soft.peers = peers;
+    Ok(Plan {
+        actions: List::new(alloc),
+        messages,
+        says: List::new(alloc),
+    })
 }

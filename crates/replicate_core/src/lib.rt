@@ -8,14 +8,16 @@
 //! matched, and so what it may commit ([`on_ack`]); what the reply means to a transfer under way is
 //! the transfer's part.
 //!
-//! A caller lends the ring, the node's number and its durable part, and hands over the volatile one.
-//! Each public function is the definition of its name in the model's `Replication`.
+//! Each rule is the definition of its name in the model's `Replication`, wherever the log is told. It
+//! reads of the log only the entries that a message names or takes, so no step takes time that grows
+//! with it.
 #![tactic(auto)]
 
+mod accepts;
 mod appends;
 mod beats;
+mod matches;
 mod replies;
-mod taking;
 mod tears;
 
 pub use appends::on_append;

@@ -7,12 +7,14 @@
 #![tactic(auto)]
 
 mod effects;
+mod faults;
 mod laws;
 mod messages;
 mod nodes;
 mod worlds;
 
 pub use effects::{Action, Cause, Outcome, Plan, Say, Step, Tear, What};
+pub use faults::CoreFault;
 pub use laws::{
     law_batch, law_commit_meets_cover, law_cover, law_covers_meet, law_greatest, law_need, law_tear,
 };

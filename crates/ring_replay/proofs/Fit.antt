@@ -17,7 +17,8 @@ use Rattle.ring_model.specs.declared.worlds.World.{World}
 use Rattle.ring_model.proofs.Events.{in_number}
 use Rattle.ring_lawful.specs.EachStep.{IsFitNode, IsGood}
 use Rattle.ring_lawful.proofs.Carry.{IsFit, always_fits}
-use Rattle.ring_replay.specs.Fit.{IsFitShown, IsFitWorld}
+use Rattle.node_unit.specs.Units.{IsFitShown}
+use Rattle.ring_replay.specs.Fit.{IsFitWorld}
 use Rattle.ring_replay.specs.Replays.{ReplayState, IsHeld}
 
 -- what stands at a place of a list of images is an image

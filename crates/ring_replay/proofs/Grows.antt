@@ -1,13 +1,11 @@
 -- The chosen sequence of a run only grows, so that of a held replay is kept by each event; and the turn of a node keeps it as its event does.
-use Rattle.std.proofs.Common.{◌≡◌, ℕ, true, List, [], ◌∷◌, ◌++◌, length, take, Option, Some, refl, ap, subst, sym, ◌∙◌, arith}
-use Rattle.std.specs.Prelude.{slice_get}
+use Rattle.std.proofs.Common.{◌≡◌, ℕ, true, List, [], ◌∷◌, ◌++◌, length, take, refl, ap, subst, sym, ◌∙◌, arith}
 use Rattle.std.proofs.lemmas.List.{take_all}
 use Rattle.ring_types.specs.declared.entries.Entry.{Entry}
 use Rattle.ring_types.specs.Rings.{IsRing, Layout}
 use Rattle.ring_model.specs.Runs.{whole_moves, world}
-use Rattle.ring_model.specs.Worlds.{Task, WorldState, shown}
+use Rattle.ring_model.specs.Worlds.{WorldState, shown}
 use Rattle.ring_model.specs.declared.effects.Say.{Say}
-use Rattle.ring_model.specs.declared.effects.Step.{Step}
 use Rattle.ring_model.specs.declared.messages.Message.{Message}
 use Rattle.ring_model.specs.declared.worlds.Event.{Event}
 use Rattle.ring_model.specs.declared.worlds.Shown.{Shown}
@@ -15,9 +13,7 @@ use Rattle.ring_model.specs.declared.worlds.World.{World}
 use Rattle.ring_lawful.proofs.Chosen.{every_run_is_safe}
 use Rattle.ring_replay.specs.Fit.{KeepsChosen}
 use Rattle.ring_replay.specs.Replays.{ReplayState, IsHeld}
-use Rattle.ring_replay.specs.Steps.{ended_at, ended_node, known_among, shown_step, shown_turn, shown_turned, turn_of}
-use Rattle.ring_replay.specs.Turns.{emptied, quiet_turn, turned_to}
-use Rattle.ring_replay.specs.declared.turns.Turn.{Turn}
+use Rattle.ring_replay.specs.Steps.{known_among, recorded, shown_step, shown_turned, with_node}
 use Rattle.ring_replay.proofs.Held.{next_known, next_shown}
 use Rattle.ring_replay.proofs.OneMore.{moves_join, one_more}
 
@@ -41,22 +37,8 @@ event_keeps ring r e valid held known =
     (subst (λ (ys : List Entry). take (length (world ring before).chosen) ys ≡ (world ring before).chosen) (sym new) kept)
 
 -- ---- one turn
--- what a turn keeps it keeps also where its node is taken out for it
-keeps_out : (v : World) (place : ℕ) (s : Shown) (messages : List Message) (says : List Say) → KeepsChosen v (shown_turned v place s messages says)
-    → KeepsChosen (emptied v place) (shown_turned (emptied v place) place s messages says)
-unfolding emptied shown_turned
-keeps_out v place s messages says keeps = keeps
-
-pub ended_keeps : (v out : World) (place : ℕ) (s : Shown) (st : Step) (t : Turn) → slice_get v.nodes place ≡ Some s → out ≡ emptied v place
-    → t ≡ turned_to (ended_node s st) st.plan.messages st.plan.says → KeepsChosen v (ended_at v place st (slice_get v.nodes place))
-    → KeepsChosen out (shown_turned out place t.shown t.messages t.says)
-ended_keeps v out place s st t at empty is keeps =
-    let here = subst (λ (o : Option Shown). KeepsChosen v (ended_at v place st o)) at keeps in
-    rw (empty, is) (keeps_out v place (ended_node s st) st.plan.messages st.plan.says here)
-
-pub quiet_keeps : (ring : Layout) (v out : World) (place : ℕ) (s n : Shown) (t : Turn) (task : Task) → slice_get v.nodes place ≡ Some s → out ≡ emptied v place
-    → t ≡ quiet_turn n → shown_turn ring v place s task ≡ shown_turned v place n [] [] → KeepsChosen v (turn_of ring v place task (slice_get v.nodes place))
-    → KeepsChosen out (shown_turned out place t.shown t.messages t.says)
-quiet_keeps ring v out place s n t task at empty is turn keeps =
-    let here = subst (λ (o : Option Shown). KeepsChosen v (turn_of ring v place task o)) at keeps in
-    rw (empty, is) (keeps_out v place n [] [] (subst (KeepsChosen v) turn here))
+-- what a turn keeps it keeps also where its node stands already
+pub keeps_in_place : (v : World) (place : ℕ) (s : Shown) (messages : List Message) (says : List Say) → KeepsChosen v (shown_turned v place s messages says)
+    → KeepsChosen (with_node v place s) (recorded (with_node v place s) s messages says)
+unfolding recorded with_node shown_turned
+keeps_in_place v place s messages says keeps = keeps

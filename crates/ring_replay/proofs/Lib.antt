@@ -1,10 +1,10 @@
-pub mod Applying
 pub mod Counts
 pub mod Fronts
 pub mod Places
 pub mod Law
 pub mod OneMore
 pub mod Held
+pub mod Turning
 pub mod Fit
 pub mod Grows
 pub mod Sent

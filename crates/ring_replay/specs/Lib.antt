@@ -1,4 +1,3 @@
 pub mod Replays
 pub mod Steps
-pub mod Turns
 pub mod Fit

@@ -1,10 +1,10 @@
 -- The step of the world as it is shown, where every event goes to its end: nodes and cursors by the places of their members in ring order, counted from 0.
 -- Only private contracts cite this file; `proofs/Law.antt` ties it to the step of the model's world.
-use Rattle.std.specs.Prelude.{ℕ, suc, ◌==◌, nat_lt, nat_le, Bool, ◌&&◌, List, [], ◌++◌, length, map, position, Option, Some, None, option_map, slice_get, slice_set, unwrap_or}
+use Rattle.std.specs.Prelude.{ℕ, suc, ◌==◌, nat_lt, nat_le, Bool, ◌&&◌, List, [], ◌++◌, length, map, position, Option, Some, None, slice_get, slice_set, unwrap_or}
 use Rattle.ring_types.specs.declared.members.Member.{Member}
 use Rattle.ring_types.specs.Rings.{Layout, is_member}
-use Rattle.ring_model.specs.Actions.{all_done}
-use Rattle.ring_model.specs.Nodes.{Node, recover, fresh_soft, empty_durable}
+use Rattle.node_unit.specs.Units.{ended_node, node_of}
+use Rattle.ring_model.specs.Nodes.{recover, fresh_soft}
 use Rattle.ring_model.specs.Dispatch.{step}
 use Rattle.ring_model.specs.Worlds.{Task, Handle, GoDown, ComeUp, Rest, grown, said_in, message_at, next_from}
 use Rattle.ring_model.specs.Runs.{is_whole_input}
@@ -32,13 +32,6 @@ abbrev pub shown_cursor : Layout → World → ℕ → ℕ
 shown_cursor ring v id = cursor_at v.cursors (place_of ring id)
 
 -- ---- one turn of a node
-abbrev pub node_of : Shown → Node
-node_of s = record { durable = s.durable; soft = s.soft }
-
--- what stands in a node's place while its turn is on
-abbrev pub nobody : Shown
-nobody = record { node = 0; durable = empty_durable; soft = None }
-
 -- the node at the place becomes this, sends and says this
 unfoldable pub shown_turned : World → ℕ → Shown → List Message → List Say → World
 shown_turned v place s messages says = record {
@@ -51,25 +44,28 @@ shown_turned v place s messages says = record {
   chosen = grown v.chosen (node_of s);
 }
 
+-- another node stands at the place
+unfoldable pub with_node : World → ℕ → Shown → World
+with_node v place s = record v { nodes = slice_set v.nodes place s }
+
+-- the turn of this node is counted, and what it sends and says is kept; it stands in its place already
+unfoldable pub recorded : World → Shown → List Message → List Say → World
+recorded v s messages says = record {
+  events = suc v.events;
+  nodes = v.nodes;
+  messages = v.messages ++ messages;
+  cursors = v.cursors;
+  said = v.said ++ map (said_in (suc v.events) s.node) says;
+  kept = v.kept;
+  chosen = grown v.chosen (node_of s);
+}
+
 -- an event that makes no node act
 abbrev pub shown_passed : World → World
 shown_passed v = record v { events = suc v.events }
 
-abbrev pub ended_node : Shown → Step → Shown
-ended_node s st = record s { durable = all_done s.durable st.plan.actions; soft = Some st.soft }
-
 abbrev pub shown_ended : World → ℕ → Shown → Step → World
 shown_ended v place s st = shown_turned v place (ended_node s st) st.plan.messages st.plan.says
-
--- the step of the node that is there on an input; None where there is none, or it is down
-abbrev pub answered : Layout → Input → Option Shown → Option Step
-answered ring i None = None
-answered ring i (Some s) = option_map (λ (f : Soft). step ring s.node s.durable f i) s.soft
-
--- the step of the node at that place ended
-abbrev pub ended_at : World → ℕ → Step → Option Shown → World
-ended_at v place st None = shown_passed v
-ended_at v place st (Some s) = shown_ended v place s st
 
 -- an input at a node that is down does nothing, and a message given to it is lost
 abbrev pub shown_handled : Layout → World → ℕ → Shown → Input → Option Soft → World

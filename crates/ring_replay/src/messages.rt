@@ -1,9 +1,8 @@
 ghost use Rattle.std.specs.Prelude.{◌≡◌, ◌+◌, ◌^◌, ◌<◌, ◌++◌, IfOk, OnOk, length, map};
 ghost use Rattle.ring_model.specs.Worlds as spec;
 
-use crate::lists::items_after;
 use ring_model::{Message, Said, Say};
-use ring_types::{Duplicate, List, Memory, NodeId};
+use ring_types::{Duplicate, List, Memory, NodeId, after};
 use std::alloc::Global;
 
 /// A copy of the message of a number counted from 1.
@@ -40,7 +39,7 @@ fn first_to(messages: &[Message], node: u32, cursor: u64) -> Option<u64>
 pub(crate) fn next_to(messages: &[Message], node: u32, cursor: u64) -> Option<u64>
     ensures { result ≡ spec.next_from 1 messages.now node cursor }
 {
-    first_to(items_after(messages, cursor), node, cursor)
+    first_to(after(messages, cursor), node, cursor)
 }
 
 /// What a node says in an event, at the end of what was said.

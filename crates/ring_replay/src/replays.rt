@@ -1,23 +1,24 @@
-ghost use Rattle.std.specs.Prelude.{◌≡◌, ℕ, ◌+◌, ◌-◌, ◌^◌, ◌<◌, true, IfOk, OnOk, Err, Some, length, slice_get};
+ghost use Rattle.std.specs.Prelude.{◌≡◌, ℕ, ◌+◌, ◌-◌, ◌^◌, ◌<◌, true, IfOk, OnOk, Err, Some, length, map, slice_get};
 ghost use Rattle.ring_model.specs.Worlds.{WorldState, Whole, Handle, GoDown, ComeUp, world_step, first_world, shown, message_at, next_from};
 ghost use Rattle.ring_model.specs.Runs.{is_known, is_whole_input};
 ghost use Rattle.ring_model.specs.declared.messages.Message.{Message};
 ghost use Rattle.ring_lawful.specs.EachStep.{IsGood};
+ghost use Rattle.ring_types.specs.Logs.{IsLog};
+ghost use Rattle.ring_types.specs.Rings.{Layout};
+ghost use Rattle.node_unit.specs.Units.{UnitState, after_answer, answered, outcome_of};
+ghost use Rattle.ring_model.specs.declared.worlds.Shown.{Shown};
+ghost use Rattle.std.specs.Option.{option_map};
 ghost use Rattle.ring_replay.specs.Fit.{IsFitWorld, KeepsChosen};
-ghost use Rattle.ring_replay.specs.Replays.{ReplayState, IsHeld, HasTables, Refuses};
-ghost use Rattle.ring_replay.specs.Turns.{emptied};
+ghost use Rattle.ring_replay.specs.Replays.{ReplayState, IsHeld, HasEngines, Refuses};
 ghost use Rattle.ring_replay.specs.Steps as steps;
 
-use crate::beginnings::{first_cursors, first_nodes, first_tables, nobody};
+use crate::beginnings::{first_cursors, first_units};
 use crate::chosen::grow;
 use crate::lines::{is_known, place_of};
-use crate::lists::replaced;
 use crate::messages::{add_said, message_at, next_to};
-use crate::turns::{Turn, answer, downed, ended, restarted};
-use ring_model::{Event, Input, Line, Message, Shown, Step, World};
-use ring_plain::joined;
-use ring_types::{Duplicate, List, Memory, NodeId, Ring};
-use row_engine::Tables;
+use node_unit::Unit;
+use ring_model::{Event, Input, Line, Message, Outcome, Say, Shown, World};
+use ring_types::{List, Memory, NodeId, Ring};
 use std::alloc::Global;
 use std::marker::Model;
 
@@ -33,21 +34,35 @@ pub enum EventError {
 
 /// A ring's run: the world after the events so far.
 ///
-/// The list of nodes of `world` stands empty: they are in `nodes`, so that a turn may take one out
-/// and change it in place. `tables` has for each node those of its engine.
+/// The list of nodes of `world` stands empty: they are in `nodes`, so that a turn changes one in
+/// place.
 #[derive(Drop)]
 pub struct Replay {
     world: World,
-    nodes: Vec<Shown>,
-    tables: Vec<Tables>,
+    nodes: Vec<Unit>,
 }
 
 impl Model for Replay {
+    ghost use Rattle.std.specs.Prelude.{map};
+    ghost use Rattle.node_unit.specs.Units.{UnitState};
     ghost use Rattle.ring_replay.specs.Replays.{ReplayState};
 
     ghost Value = { ReplayState };
 
-    ghost view = { λ r. record { world = record r.world { nodes = r.nodes.items }; tables = r.tables.items } };
+    ghost view = { λ r. record { world = record r.world { nodes = map (λ (u : UnitState). u.shown) r.nodes.items }; engines = map (λ (u : UnitState). u.engine) r.nodes.items } };
+}
+
+/// The nodes as a report shows them.
+fn all_shown(alloc: Global, units: Vec<Unit>) -> Result<List<Shown>, Memory>
+    ensures { IfOk result (λ it. it ≡ map (λ (u : UnitState). u.shown) units.items) }
+{
+    let mut units = units;
+    let mut shown = List::new(alloc);
+    while !units.is_empty() {
+        let unit = units.remove(0);
+        shown.push(unit.into_shown()?)?;
+    }
+    Ok(shown)
 }
 
 impl Replay {
@@ -57,9 +72,8 @@ impl Replay {
         ensures world { IfOk result (λ it. it.world ≡ shown ring.now first_world) }
         ensures held { IfOk result (λ it. IsHeld ring.now it) }
     {
-        let nodes = first_nodes(alloc, ring)?;
+        let nodes = first_units(alloc, ring)?;
         let cursors = first_cursors(alloc, ring)?;
-        let tables = first_tables(alloc, ring)?;
         Ok(Replay {
             world: World {
                 events: 0,
@@ -71,124 +85,59 @@ impl Replay {
                 chosen: List::new(alloc),
             },
             nodes,
-            tables,
         })
     }
 
     fn pass(&mut self)
         requires few { self.old.world.events < 2 ^ 64 - 1 }
         ensures world { self.new.world ≡ steps.shown_passed self.old.world }
-        ensures tables { self.new.tables ≡ self.old.tables }
+        ensures engines { self.new.engines ≡ self.old.engines }
     {
         self.world.events += 1;
     }
 
-    /// The node at a place becomes, sends and says what its turn made.
-    #[tactic(auto, unfolding(crate::specs::Steps::shown_turned))]
-    fn take_turn(&mut self, alloc: Global, place: usize, turn: Turn) -> Result<(), Memory>
+    /// Counts the turn of the node at a place, and keeps what it sends and says.
+    #[tactic(auto, unfolding(crate::specs::Steps::recorded))]
+    fn keep_turn(
+        &mut self,
+        alloc: Global,
+        place: usize,
+        messages: List<Message>,
+        says: &[Say],
+    ) -> Result<(), Memory>
         requires few { self.old.world.events < 2 ^ 64 - 1 }
         requires node { place < length self.old.world.nodes }
-        requires keeps { KeepsChosen self.old.world (steps.shown_turned self.old.world place turn.shown turn.messages turn.says) }
-        ensures world { OnOk result (self.new.world ≡ steps.shown_turned self.old.world place turn.shown turn.messages turn.says) }
-        ensures tables { OnOk result (self.new.tables ≡ self.old.tables) }
+        requires keeps { (s : Shown) → slice_get self.old.world.nodes place ≡ Some s → KeepsChosen self.old.world (steps.recorded self.old.world s messages says.now) }
+        ensures world { (s : Shown) → slice_get self.old.world.nodes place ≡ Some s → OnOk result (self.new.world ≡ steps.recorded self.old.world s messages says.now) }
+        ensures engines { OnOk result (self.new.engines ≡ self.old.engines) }
     {
-        let Turn {
-            shown,
-            messages,
-            says,
-        } = turn;
         let event = self.world.events + 1;
         self.world.events = event;
-        add_said(
-            alloc,
-            &mut self.world.said,
-            event,
-            shown.node,
-            says.as_slice(),
-        )?;
-        self.world.messages.append(messages)?;
-        grow(alloc, &mut self.world.chosen, &shown)?;
-        self.nodes[place] = shown;
-        Ok(())
+        let unit = &self.nodes[place];
+        add_said(alloc, &mut self.world.said, event, unit.me(), says)?;
+        grow(alloc, &mut self.world.chosen, unit)?;
+        self.world.messages.append(messages)
     }
 
-    /// Takes a node out for its turn, so that it is moved and not copied.
-    #[tactic(auto, unfolding(crate::specs::Turns::emptied))]
-    fn take_out(&mut self, alloc: Global, place: usize) -> Shown
-        requires { place < length self.old.world.nodes }
-        ensures rest { self.new.world ≡ emptied self.old.world place }
-        ensures events { self.new.world.events ≡ self.old.world.events }
-        ensures nodes { length self.new.world.nodes ≡ length self.old.world.nodes }
-        ensures tables { self.new.tables ≡ self.old.tables }
-        ensures shown { slice_get self.old.world.nodes place ≡ Some result }
-    {
-        replaced(&mut self.nodes, place, nobody(alloc))
-    }
-
-    #[tactic(auto, using(crate::proofs::Held::rows_at, crate::proofs::Held::table_there, crate::proofs::Held::taken_over, crate::proofs::Held::turn_held))]
-    fn end(&mut self, alloc: Global, ring: &Ring, place: usize, step: Step) -> Result<(), Memory>
-        requires few { self.old.world.events < 2 ^ 64 - 1 }
-        requires held { HasTables ring.now self.old }
-        requires node { place < length self.old.world.nodes }
-        requires keeps { KeepsChosen self.old.world (steps.ended_at self.old.world place step (slice_get self.old.world.nodes place)) }
-        ensures world { OnOk result (self.new.world ≡ steps.ended_at self.old.world place step (slice_get self.old.world.nodes place)) }
-        ensures held { OnOk result (HasTables ring.now self.new) }
-    {
-        let shown = self.take_out(alloc, place);
-        let turn = ended(alloc, ring, shown, &mut self.tables[place], step)?;
-        self.take_turn(alloc, place, turn)
-    }
-
-    #[tactic(auto, using(crate::proofs::Held::taken_over, crate::proofs::Held::turn_kept))]
-    fn go_down(&mut self, alloc: Global, ring: &Ring, place: usize) -> Result<(), Memory>
-        requires few { self.old.world.events < 2 ^ 64 - 1 }
-        requires held { HasTables ring.now self.old }
-        requires node { place < length self.old.world.nodes }
-        requires keeps { KeepsChosen self.old.world (steps.turn_of ring.now self.old.world place GoDown (slice_get self.old.world.nodes place)) }
-        ensures world { OnOk result (self.new.world ≡ steps.turn_of ring.now self.old.world place GoDown (slice_get self.old.world.nodes place)) }
-        ensures held { OnOk result (HasTables ring.now self.new) }
-    {
-        let shown = self.take_out(alloc, place);
-        self.take_turn(alloc, place, downed(alloc, shown))
-    }
-
-    #[tactic(auto, using(crate::proofs::Held::taken_over, crate::proofs::Held::turn_kept))]
-    fn come_up(&mut self, alloc: Global, ring: &Ring, place: usize) -> Result<(), Memory>
-        requires few { self.old.world.events < 2 ^ 64 - 1 }
-        requires held { HasTables ring.now self.old }
-        requires node { place < length self.old.world.nodes }
-        requires keeps { KeepsChosen self.old.world (steps.turn_of ring.now self.old.world place ComeUp (slice_get self.old.world.nodes place)) }
-        ensures world { OnOk result (self.new.world ≡ steps.turn_of ring.now self.old.world place ComeUp (slice_get self.old.world.nodes place)) }
-        ensures held { OnOk result (HasTables ring.now self.new) }
-    {
-        let shown = self.take_out(alloc, place);
-        let turn = restarted(alloc, shown)?;
-        self.take_turn(alloc, place, turn)
-    }
-
-    #[tactic(auto, using(crate::proofs::Held::rows_at, crate::proofs::Held::rows_there, crate::proofs::Fit::fit_at))]
-    fn answer_at(
-        &self,
+    /// The step of the node at a place on an input; None where it is down.
+    fn step_at(
+        &mut self,
         alloc: Global,
         ring: &Ring,
         place: usize,
         input: &Input,
-    ) -> Result<Option<Step>, Memory>
-        requires held { HasTables ring.now self.now }
-        requires fit { IsFitWorld ring.now self.now.world }
+    ) -> Result<Option<Outcome>, Memory>
+        requires held { HasEngines ring.now self.old }
+        requires fit { IsFitWorld ring.now self.old.world }
         requires good { IsGood ring.now input.now }
-        ensures { IfOk result (λ it. it ≡ steps.answered ring.now input.now (slice_get self.now.world.nodes place)) }
+        requires node { place < length self.old.world.nodes }
+        ensures world { (s : Shown) → slice_get self.old.world.nodes place ≡ Some s → OnOk result (self.new.world ≡ steps.with_node self.old.world place (after_answer s (answered ring.now input.now s))) }
+        ensures gives { (s : Shown) → slice_get self.old.world.nodes place ≡ Some s → IfOk result (λ it. it ≡ option_map outcome_of (answered ring.now input.now s)) }
+        ensures held { OnOk result (HasEngines ring.now self.new) }
     {
-        match self.nodes.get(place) {
-            None => Ok(None),
-            Some(shown) => match self.tables.get(place) {
-                None => Ok(None),
-                Some(rows) => answer(alloc, ring, shown, rows, input),
-            },
-        }
+        self.nodes[place].step(alloc, ring, input)
     }
 
-    #[tactic(auto, using(crate::proofs::Held::answered_there, crate::proofs::Held::turn_answered, crate::proofs::Held::turn_unanswered))]
     fn handle_at(
         &mut self,
         alloc: Global,
@@ -197,20 +146,71 @@ impl Replay {
         input: &Input,
     ) -> Result<(), Memory>
         requires few { self.old.world.events < 2 ^ 64 - 1 }
-        requires held { HasTables ring.now self.old }
+        requires held { HasEngines ring.now self.old }
         requires fit { IsFitWorld ring.now self.old.world }
         requires good { IsGood ring.now input.now }
         requires keeps { KeepsChosen self.old.world (steps.turn_of ring.now self.old.world place (Handle input.now) (slice_get self.old.world.nodes place)) }
         ensures world { OnOk result (self.new.world ≡ steps.turn_of ring.now self.old.world place (Handle input.now) (slice_get self.old.world.nodes place)) }
-        ensures held { OnOk result (HasTables ring.now self.new) }
+        ensures held { OnOk result (HasEngines ring.now self.new) }
     {
-        match self.answer_at(alloc, ring, place, input)? {
+        if place >= self.nodes.len() {
+            self.pass();
+            return Ok(());
+        }
+        match self.step_at(alloc, ring, place, input)? {
             None => {
                 self.pass();
                 Ok(())
             }
-            Some(step) => self.end(alloc, ring, place, step),
+            Some(outcome) => {
+                let Outcome { messages, says } = outcome;
+                self.keep_turn(alloc, place, messages, says.as_slice())
+            }
         }
+    }
+
+    /// The node at a place goes down.
+    fn stop_at(&mut self, place: usize)
+        requires node { place < length self.old.world.nodes }
+        ensures world { (s : Shown) → slice_get self.old.world.nodes place ≡ Some s → self.new.world ≡ steps.with_node self.old.world place (steps.downed_node s) }
+        ensures held { (ring : Layout) → HasEngines ring self.old → HasEngines ring self.new }
+    {
+        self.nodes[place].stop();
+    }
+
+    /// The node at a place comes up.
+    fn start_at(&mut self, alloc: Global, place: usize) -> Result<(), Memory>
+        requires node { place < length self.old.world.nodes }
+        requires log { (s : Shown) → slice_get self.old.world.nodes place ≡ Some s → IsLog s.durable.log }
+        ensures world { (s : Shown) → slice_get self.old.world.nodes place ≡ Some s → OnOk result (self.new.world ≡ steps.with_node self.old.world place (steps.restarted_node s)) }
+        ensures held { (ring : Layout) → HasEngines ring self.old → OnOk result (HasEngines ring self.new) }
+    {
+        self.nodes[place].restart(alloc)
+    }
+
+    fn go_down(&mut self, alloc: Global, ring: &Ring, place: usize) -> Result<(), Memory>
+        requires few { self.old.world.events < 2 ^ 64 - 1 }
+        requires held { HasEngines ring.now self.old }
+        requires node { place < length self.old.world.nodes }
+        requires keeps { KeepsChosen self.old.world (steps.turn_of ring.now self.old.world place GoDown (slice_get self.old.world.nodes place)) }
+        ensures world { OnOk result (self.new.world ≡ steps.turn_of ring.now self.old.world place GoDown (slice_get self.old.world.nodes place)) }
+        ensures held { OnOk result (HasEngines ring.now self.new) }
+    {
+        self.stop_at(place);
+        self.keep_turn(alloc, place, List::new(alloc), &[])
+    }
+
+    fn come_up(&mut self, alloc: Global, ring: &Ring, place: usize) -> Result<(), Memory>
+        requires few { self.old.world.events < 2 ^ 64 - 1 }
+        requires held { HasEngines ring.now self.old }
+        requires fit { IsFitWorld ring.now self.old.world }
+        requires node { place < length self.old.world.nodes }
+        requires keeps { KeepsChosen self.old.world (steps.turn_of ring.now self.old.world place ComeUp (slice_get self.old.world.nodes place)) }
+        ensures world { OnOk result (self.new.world ≡ steps.turn_of ring.now self.old.world place ComeUp (slice_get self.old.world.nodes place)) }
+        ensures held { OnOk result (HasEngines ring.now self.new) }
+    {
+        self.start_at(alloc, place)?;
+        self.keep_turn(alloc, place, List::new(alloc), &[])
     }
 
     /// Gives an input to a member.
@@ -222,12 +222,12 @@ impl Replay {
         input: &Input,
     ) -> Result<(), Memory>
         requires few { self.old.world.events < 2 ^ 64 - 1 }
-        requires held { HasTables ring.now self.old }
+        requires held { HasEngines ring.now self.old }
         requires fit { IsFitWorld ring.now self.old.world }
         requires good { IsGood ring.now input.now }
         requires keeps { KeepsChosen self.old.world (steps.shown_member_turn ring.now self.old.world id (Handle input.now)) }
         ensures world { OnOk result (self.new.world ≡ steps.shown_member_turn ring.now self.old.world id (Handle input.now)) }
-        ensures held { OnOk result (HasTables ring.now self.new) }
+        ensures held { OnOk result (HasEngines ring.now self.new) }
     {
         match place_of(ring, id) {
             None => {
@@ -240,10 +240,10 @@ impl Replay {
 
     fn crash(&mut self, alloc: Global, ring: &Ring, id: NodeId) -> Result<(), Memory>
         requires few { self.old.world.events < 2 ^ 64 - 1 }
-        requires held { HasTables ring.now self.old }
+        requires held { HasEngines ring.now self.old }
         requires keeps { KeepsChosen self.old.world (steps.shown_member_turn ring.now self.old.world id GoDown) }
         ensures world { OnOk result (self.new.world ≡ steps.shown_member_turn ring.now self.old.world id GoDown) }
-        ensures held { OnOk result (HasTables ring.now self.new) }
+        ensures held { OnOk result (HasEngines ring.now self.new) }
     {
         match place_of(ring, id) {
             Some(place) if place < self.nodes.len() => self.go_down(alloc, ring, place),
@@ -256,10 +256,11 @@ impl Replay {
 
     fn restart(&mut self, alloc: Global, ring: &Ring, id: NodeId) -> Result<(), Memory>
         requires few { self.old.world.events < 2 ^ 64 - 1 }
-        requires held { HasTables ring.now self.old }
+        requires held { HasEngines ring.now self.old }
+        requires fit { IsFitWorld ring.now self.old.world }
         requires keeps { KeepsChosen self.old.world (steps.shown_member_turn ring.now self.old.world id ComeUp) }
         ensures world { OnOk result (self.new.world ≡ steps.shown_member_turn ring.now self.old.world id ComeUp) }
-        ensures held { OnOk result (HasTables ring.now self.new) }
+        ensures held { OnOk result (HasEngines ring.now self.new) }
     {
         match place_of(ring, id) {
             Some(place) if place < self.nodes.len() => self.come_up(alloc, ring, place),
@@ -274,11 +275,11 @@ impl Replay {
     #[tactic(auto, using(crate::proofs::Fit::sent_is_good))]
     fn give(&mut self, alloc: Global, ring: &Ring, number: u64) -> Result<(), Memory>
         requires few { self.old.world.events < 2 ^ 64 - 1 }
-        requires held { HasTables ring.now self.old }
+        requires held { HasEngines ring.now self.old }
         requires fit { IsFitWorld ring.now self.old.world }
         requires keeps { KeepsChosen self.old.world (steps.shown_given ring.now self.old.world (message_at self.old.world.messages number)) }
         ensures world { OnOk result (self.new.world ≡ steps.shown_given ring.now self.old.world (message_at self.old.world.messages number)) }
-        ensures held { OnOk result (HasTables ring.now self.new) }
+        ensures held { OnOk result (HasEngines ring.now self.new) }
     {
         match message_at(alloc, self.world.messages.as_slice(), number)? {
             None => {
@@ -319,7 +320,7 @@ impl Replay {
         ensures nodes { self.new.world.nodes ≡ self.old.world.nodes }
         ensures messages { self.new.world.messages ≡ self.old.world.messages }
         ensures chosen { self.new.world.chosen ≡ self.old.world.chosen }
-        ensures tables { self.new.tables ≡ self.old.tables }
+        ensures engines { self.new.engines ≡ self.old.engines }
     {
         if let Some(place) = place_of(ring, id)
             && place < self.world.cursors.len()
@@ -330,11 +331,11 @@ impl Replay {
 
     fn give_next(&mut self, alloc: Global, ring: &Ring, id: NodeId) -> Result<(), Memory>
         requires few { self.old.world.events < 2 ^ 64 - 1 }
-        requires held { HasTables ring.now self.old }
+        requires held { HasEngines ring.now self.old }
         requires fit { IsFitWorld ring.now self.old.world }
         requires keeps { KeepsChosen self.old.world (steps.shown_next_given ring.now self.old.world id (steps.shown_next_to ring.now self.old.world id)) }
         ensures world { OnOk result (self.new.world ≡ steps.shown_next_given ring.now self.old.world id (steps.shown_next_to ring.now self.old.world id)) }
-        ensures held { OnOk result (HasTables ring.now self.new) }
+        ensures held { OnOk result (HasEngines ring.now self.new) }
     {
         match self.next_to(ring, id) {
             None => {
@@ -350,9 +351,9 @@ impl Replay {
 
     fn skip(&mut self, ring: &Ring, id: NodeId)
         requires few { self.old.world.events < 2 ^ 64 - 1 }
-        requires held { HasTables ring.now self.old }
+        requires held { HasEngines ring.now self.old }
         ensures world { self.new.world ≡ steps.shown_skipped ring.now self.old.world id (steps.shown_next_to ring.now self.old.world id) }
-        ensures held { HasTables ring.now self.new }
+        ensures held { HasEngines ring.now self.new }
     {
         if let Some(number) = self.next_to(ring, id) {
             self.move_to(ring, id, number);
@@ -370,12 +371,12 @@ impl Replay {
         input: &Input,
     ) -> Result<(), Memory>
         requires few { self.old.world.events < 2 ^ 64 - 1 }
-        requires held { HasTables ring.now self.old }
+        requires held { HasEngines ring.now self.old }
         requires fit { IsFitWorld ring.now self.old.world }
         requires whole { is_whole_input input.now ≡ true }
         requires keeps { KeepsChosen self.old.world (steps.shown_at_node ring.now self.old.world id input.now) }
         ensures world { OnOk result (self.new.world ≡ steps.shown_at_node ring.now self.old.world id input.now) }
-        ensures held { OnOk result (HasTables ring.now self.new) }
+        ensures held { OnOk result (HasEngines ring.now self.new) }
     {
         match input {
             Input::Deliver(_) => {
@@ -389,12 +390,12 @@ impl Replay {
     #[tactic(auto, unfolding(crate::specs::Steps::shown_step), using(ring_types::proofs::Booleans::both_true))]
     fn take_line(&mut self, alloc: Global, ring: &Ring, line: &Line) -> Result<(), Memory>
         requires few { self.old.world.events < 2 ^ 64 - 1 }
-        requires held { HasTables ring.now self.old }
+        requires held { HasEngines ring.now self.old }
         requires fit { IsFitWorld ring.now self.old.world }
         requires known { steps.known_among ring.now self.old.world.messages line.now ≡ true }
         requires keeps { KeepsChosen self.old.world (steps.shown_step ring.now self.old.world line.now) }
         ensures world { OnOk result (self.new.world ≡ steps.shown_step ring.now self.old.world line.now) }
-        ensures held { OnOk result (HasTables ring.now self.new) }
+        ensures held { OnOk result (HasEngines ring.now self.new) }
     {
         match line {
             Line::At { node, input } => self.give_input(alloc, ring, *node, input),
@@ -441,11 +442,11 @@ impl Replay {
     }
 
     /// The world after the events so far.
-    pub fn finish(&self, alloc: Global) -> Result<World, Memory>
-        ensures { IfOk result (λ it. it ≡ self.now.world) }
+    pub fn finish(self, alloc: Global) -> Result<World, Memory>
+        ensures { IfOk result (λ it. it ≡ self.world) }
     {
-        let mut world = self.world.copy(alloc)?;
-        world.nodes = joined(alloc, List::new(alloc), self.nodes.as_slice())?;
-        Ok(world)
+        let Replay { world, nodes } = self;
+        let nodes = all_shown(alloc, nodes)?;
+        Ok(World { nodes, ..world })
     }
 }

@@ -1,8 +1,7 @@
-//! Rings, logs and nodes from few parts. Want of memory ends the test.
-use ring_model::{Action, Durable, Message, Mock, Plan, Role, Say, Soft, Step, Transfer};
+//! Rings and votes from few parts. Want of memory ends the test.
 use ring_types::{
-    Change, Column, Entry, Grant, Gtid, Kind, List, MemberPart, NodeId, Opid, Payload, RegionId,
-    Ring, RingParts, Schema, Shape, Table, Text, Txn, Value, Vote,
+    Column, Grant, Kind, List, MemberPart, NodeId, RegionId, Ring, RingParts, Schema, Shape, Table,
+    Text, Vote,
 };
 use std::process::Abort;
 
@@ -78,32 +77,6 @@ fn ring(rt: &(impl AllocGlobal + Abort), regions: List<Text>, members: List<Memb
     Ring::build(rt.alloc(), parts).expect(rt, "a ring")
 }
 
-fn ring_of_one(rt: &(impl AllocGlobal + Abort), kind: Kind) -> Ring {
-    ring(
-        rt,
-        one(rt, text(rt, "a")),
-        one(rt, member(rt, 1, "a", kind)),
-    )
-}
-
-/// The voter 1 alone.
-pub fn lone(rt: &(impl AllocGlobal + Abort)) -> Ring {
-    ring_of_one(rt, Kind::Full)
-}
-
-/// The logtailer 1 alone.
-pub fn lone_tailer(rt: &(impl AllocGlobal + Abort)) -> Ring {
-    ring_of_one(rt, Kind::Tailer)
-}
-
-/// The voters 1, 2 and 3 in one region; 2 has no engine.
-pub fn three(rt: &(impl AllocGlobal + Abort)) -> Ring {
-    let first = one(rt, member(rt, 1, "a", Kind::Full));
-    let two = with(rt, first, member(rt, 2, "a", Kind::Tailer));
-    let all = with(rt, two, member(rt, 3, "a", Kind::Full));
-    ring(rt, one(rt, text(rt, "a")), all)
-}
-
 fn spread_members(rt: &(impl AllocGlobal + Abort)) -> List<MemberPart> {
     let first = one(rt, member(rt, 1, "a", Kind::Full));
     let two = with(rt, first, member(rt, 2, "b", Kind::Full));
@@ -117,81 +90,7 @@ pub fn spread(rt: &(impl AllocGlobal + Abort)) -> Ring {
     ring(rt, with(rt, regions, text(rt, "c")), spread_members(rt))
 }
 
-// ---- entries
-
-/// The first number of node 1.
-pub const GTID: Gtid = Gtid {
-    server: 1001,
-    number: 1,
-};
-
-pub fn entry(term: u64, position: u64, payload: Payload) -> Entry {
-    Entry {
-        opid: Opid { term, position },
-        region: RegionId(1),
-        payload,
-    }
-}
-
-pub fn noop(term: u64, position: u64) -> Entry {
-    entry(term, position, Payload::NoOp)
-}
-
-pub fn insert(rt: &(impl AllocGlobal + Abort), table: &str, id: i64) -> List<Change> {
-    let change = Change::Insert {
-        table: text(rt, table),
-        row: one(rt, Value::Int(id)),
-    };
-    one(rt, change)
-}
-
-/// The insert of a row into `t`, as node 1's first transaction.
-pub fn txn(rt: &(impl AllocGlobal + Abort), id: i64) -> Txn {
-    Txn {
-        gtid: GTID,
-        changes: insert(rt, "t", id),
-    }
-}
-
-// ---- nodes
-
-pub fn durable(
-    rt: &(impl AllocGlobal + Abort),
-    term: u64,
-    votes: List<Vote>,
-    log: List<Entry>,
-) -> Durable {
-    Durable {
-        term,
-        votes,
-        log,
-        applied: 0,
-        prepared: none(rt),
-    }
-}
-
-pub fn soft(rt: &(impl AllocGlobal + Abort), role: Role, commit: u64, ready_at: u64) -> Soft {
-    Soft {
-        role,
-        commit,
-        ready_at,
-        rounds: 0,
-        grants: none(rt),
-        peers: none(rt),
-        pending: none(rt),
-        transfer: Transfer::Off,
-        mock: Mock::Off,
-    }
-}
-
-/// A follower that has not led, and whose commit count is this.
-pub fn follower(rt: &(impl AllocGlobal + Abort), commit: u64) -> Soft {
-    soft(rt, Role::Follower, commit, 0)
-}
-
-pub fn with_grants(soft: Soft, grants: List<Grant>) -> Soft {
-    Soft { grants, ..soft }
-}
+// ---- votes
 
 pub fn vote(term: u64, candidate: u32, region: u16) -> Vote {
     Vote {
@@ -208,15 +107,3 @@ pub fn grant(voter: u32, votes: List<Vote>) -> Grant {
     }
 }
 
-// ---- steps
-
-pub fn step(actions: List<Action>, messages: List<Message>, says: List<Say>, soft: Soft) -> Step {
-    Step {
-        plan: Plan {
-            actions,
-            messages,
-            says,
-        },
-        soft,
-    }
-}

@@ -1,5 +1,5 @@
-//! The tests of the floor of rules, worked out by hand: needed regions (`flexi_quorum`), writes, refusals
-//! and commit counts (`commit_pipeline`) and elections (`election_core`).
+//! The tests of the floor of rules, worked out by hand: needed regions (`flexi_quorum`). The rules
+//! themselves ask for a lawful node, and are run by the worked cases.
 //!
 //! They call public functions alone, and stand in a crate of their own since a crate with tests is
 //! proved twice, alone and with them. Want of memory ends a test.
@@ -9,14 +9,6 @@
 #![tactic(auto)]
 
 #[cfg(test)]
-mod commits;
-#[cfg(test)]
-mod elections;
-#[cfg(test)]
 mod fixtures;
 #[cfg(test)]
 mod needs;
-#[cfg(test)]
-mod refusals;
-#[cfg(test)]
-mod writes;

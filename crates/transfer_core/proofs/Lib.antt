@@ -1,1 +1,4 @@
-pub mod CountedAnswers
+-- a mock election at its target
+pub mod Polling
+-- the two rules that other crates share
+pub mod Halves

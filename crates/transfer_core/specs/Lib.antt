@@ -1,1 +1,3 @@
 pub mod Halves
+pub mod Handing
+pub mod Polls

@@ -1,187 +1,171 @@
-//! The replies of the other voters at the target, and the result, which is sent in the step that decides
-//! it.
-ghost use Rattle.std.specs.Prelude.{◌≡◌, ◌++◌, ◌∷◌, [], IfOk};
-ghost use Rattle.ring_model.specs.Steps as steps;
+//! A mock election at its target, and how it is decided: it passes once the voters that are near
+//! enough cover the leader's region and the target's own.
+ghost use Rattle.std.specs.Prelude.{◌≡◌, ◌<◌, IfOk};
+ghost use Rattle.ring_types.specs.declared.limits.TheConstants.{TERM_END};
 ghost use Rattle.ring_model.specs.Transfers as spec;
-ghost use Rattle.ring_model.specs.declared.nodes.Mock.TheVariants as mock;
+ghost use Rattle.transfer_core.specs.Polls as own;
 
-use crate::mocks::{mock_result, verdict};
-use commit_pipeline::{idle, stepped};
-use flexi_quorum::is_listed;
-use ring_model::{Durable, Message, Mock, MockReply, Soft, Step};
-use ring_types::{Duplicate, List, Memory, NodeId, Opid, Ring};
+use commit_pipeline::message;
+use flexi_quorum::{covers, is_listed};
+use ring_model::{Body, Message, Mock, MockReply, MockResult, MockStart};
+use ring_types::{Duplicate, List, MOCK_LAG, Memory, NodeId, Opid, Ring};
 use std::alloc::Global;
 
-/// A mock election at its target: the leader that asked for it, with its last opid and the round, and
-/// the voters whose replies came, in order of arrival.
+/// A mock election: the leader that asked for it, with its last opid and the round, and the voters
+/// whose replies came, in order of arrival.
 #[derive(Drop)]
-struct Poll {
-    leader: NodeId,
-    round: u64,
-    last: Opid,
-    passed: List<NodeId>,
-    failed: List<NodeId>,
+pub(crate) struct Poll {
+    pub(crate) leader: NodeId,
+    pub(crate) round: u64,
+    pub(crate) last: Opid,
+    pub(crate) passed: List<NodeId>,
+    pub(crate) failed: List<NodeId>,
 }
 
-/// The result is sent in the step that decides it.
-fn deciding(
+/// Whether a voter passes whose log has `end` entries: it is near enough to the leader's.
+pub(crate) fn passes(end: u64, asked: Opid) -> bool
+    requires { end < TERM_END }
+    ensures { result ≡ own.passes end asked }
+{
+    asked.position <= end + MOCK_LAG
+}
+
+/// Whether these voters cover the leader's region and the node's own.
+fn covers_both(ring: &Ring, leader: NodeId, me: NodeId, ids: &List<NodeId>) -> bool
+    ensures { result ≡ spec.covers_both ring.now leader me ids.now }
+{
+    let ids = ids.as_slice();
+    covers(ring, ring.region_of(leader), ids) && covers(ring, ring.region_of(me), ids)
+}
+
+/// The members that are not among the failed, in ring order.
+fn unfailed(alloc: Global, ring: &Ring, failed: &List<NodeId>) -> Result<List<NodeId>, Memory>
+    ensures { IfOk result (λ it. it ≡ spec.unfailed ring.now failed.now) }
+{
+    let mut ids = List::new(alloc);
+    for member in ring.members().as_slice() {
+        if !is_listed(failed.as_slice(), member.id) {
+            ids.push(member.id)?;
+        }
+    }
+    Ok(ids)
+}
+
+/// Whether the voters that have not failed still cover both regions.
+fn may_pass(
     alloc: Global,
-    me: NodeId,
+    ring: &Ring,
     leader: NodeId,
+    me: NodeId,
+    failed: &List<NodeId>,
+) -> Result<bool, Memory>
+    ensures { IfOk result (λ it. it ≡ spec.covers_both ring.now leader me (spec.unfailed ring.now failed.now)) }
+{
+    let left = unfailed(alloc, ring, failed)?;
+    Ok(covers_both(ring, leader, me, &left))
+}
+
+impl Poll {
+    /// The mock election that a leader asks for, at a node whose log has `end` entries: the node's own
+    /// test is the first reply.
+    pub(crate) fn begun(
+        alloc: Global,
+        me: NodeId,
+        end: u64,
+        from: NodeId,
+        sent: &MockStart,
+    ) -> Result<Poll, Memory>
+        requires { end < TERM_END }
+        ensures { IfOk result (λ it. it ≡ own.begun me end from sent.now) }
+    {
+        let poll = Poll {
+            leader: from,
+            round: sent.round,
+            last: sent.last,
+            passed: List::new(alloc),
+            failed: List::new(alloc),
+        };
+        poll.with_reply(me, passes(end, sent.last))
+    }
+
+    /// Adds the reply of a voter that has not replied before.
+    pub(crate) fn with_reply(self, from: NodeId, ok: bool) -> Result<Poll, Memory>
+        ensures { IfOk result (λ it. it ≡ own.with_reply self from ok) }
+    {
+        let mut poll = self;
+        if ok {
+            poll.passed.push(from)?;
+        } else {
+            poll.failed.push(from)?;
+        }
+        Ok(poll)
+    }
+
+    /// How it is decided, if it is.
+    pub(crate) fn verdict(
+        &self,
+        alloc: Global,
+        ring: &Ring,
+        me: NodeId,
+    ) -> Result<Option<bool>, Memory>
+        ensures { IfOk result (λ it. it ≡ own.decided ring.now me self.now) }
+    {
+        if covers_both(ring, self.leader, me, &self.passed) {
+            return Ok(Some(true));
+        }
+        if may_pass(alloc, ring, self.leader, me, &self.failed)? {
+            Ok(None)
+        } else {
+            Ok(Some(false))
+        }
+    }
+
+    /// How it ended, for the leader that asked for it.
+    pub(crate) fn result(&self, me: NodeId, term: u64, ok: bool) -> Message
+        ensures { result ≡ spec.mock_result me self.now.leader term self.now.round ok }
+    {
+        let round = self.round;
+        message(
+            me,
+            self.leader,
+            Body::MockResult(MockResult { term, round, ok }),
+        )
+    }
+
+    /// What the node keeps of it.
+    pub(crate) fn into_mock(self) -> Mock
+        ensures { result ≡ own.mock_of self }
+    {
+        let Poll {
+            leader,
+            round,
+            last,
+            passed,
+            failed,
+        } = self;
+        Mock::On {
+            leader,
+            round,
+            last,
+            passed,
+            failed,
+        }
+    }
+}
+
+/// The mock election that counts this reply, copied: a reply of another term or round is not heard,
+/// and a second reply of one voter changes nothing.
+pub(crate) fn heard_poll(
+    alloc: Global,
+    mock: &Mock,
     term: u64,
-    round: u64,
-    before: Option<bool>,
-    after: Option<bool>,
-) -> Result<List<Message>, Memory>
-    ensures { IfOk result (λ it. it ≡ spec.deciding me leader term round before after) }
-{
-    match before {
-        Some(_) => Ok(List::new(alloc)),
-        None => match after {
-            None => Ok(List::new(alloc)),
-            Some(ok) => List::of_one(alloc, mock_result(me, leader, term, round, ok)),
-        },
-    }
-}
-
-/// The step of a target with one reply more; `before` is how the poll was decided without it.
-fn with_answer(
-    alloc: Global,
-    ring: &Ring,
-    me: NodeId,
-    durable: &Durable,
-    soft: Soft,
-    before: Option<bool>,
-    poll: Poll,
-) -> Result<Step, Memory>
-    ensures { IfOk result (λ it. it ≡ steps.stepped [] (spec.deciding me poll.leader durable.now.term poll.round before (spec.verdict ring.now poll.leader me poll.passed poll.failed)) [] (record soft { mock = mock.On poll.leader poll.round poll.last poll.passed poll.failed })) }
-{
-    let Poll {
-        leader,
-        round,
-        last,
-        passed,
-        failed,
-    } = poll;
-    let after = verdict(alloc, ring, leader, me, &passed, &failed)?;
-    let messages = deciding(alloc, me, leader, durable.term, round, before, after)?;
-    let mock = Mock::On {
-        leader,
-        round,
-        last,
-        passed,
-        failed,
-    };
-    let soft = Soft { mock, ..soft };
-    Ok(stepped(List::new(alloc), messages, List::new(alloc), soft))
-}
-
-fn with_passed(poll: Poll, from: NodeId) -> Result<Poll, Memory>
-    ensures { IfOk result (λ it. it ≡ record poll { passed = poll.passed ++ from ∷ [] }) }
-{
-    let mut poll = poll;
-    poll.passed.push(from)?;
-    Ok(poll)
-}
-
-fn with_failed(poll: Poll, from: NodeId) -> Result<Poll, Memory>
-    ensures { IfOk result (λ it. it ≡ record poll { failed = poll.failed ++ from ∷ [] }) }
-{
-    let mut poll = poll;
-    poll.failed.push(from)?;
-    Ok(poll)
-}
-
-fn count_passed(
-    alloc: Global,
-    ring: &Ring,
-    me: NodeId,
-    durable: &Durable,
-    soft: Soft,
-    from: NodeId,
-    poll: Poll,
-) -> Result<Step, Memory>
-    ensures { IfOk result (λ it. it ≡ spec.with_answer ring.now me durable.now soft poll.leader poll.round poll.last poll.passed poll.failed (poll.passed ++ from ∷ []) poll.failed) }
-{
-    let before = verdict(alloc, ring, poll.leader, me, &poll.passed, &poll.failed)?;
-    let more = with_passed(poll, from)?;
-    with_answer(alloc, ring, me, durable, soft, before, more)
-}
-
-fn count_failed(
-    alloc: Global,
-    ring: &Ring,
-    me: NodeId,
-    durable: &Durable,
-    soft: Soft,
-    from: NodeId,
-    poll: Poll,
-) -> Result<Step, Memory>
-    ensures { IfOk result (λ it. it ≡ spec.with_answer ring.now me durable.now soft poll.leader poll.round poll.last poll.passed poll.failed poll.passed (poll.failed ++ from ∷ [])) }
-{
-    let before = verdict(alloc, ring, poll.leader, me, &poll.passed, &poll.failed)?;
-    let more = with_failed(poll, from)?;
-    with_answer(alloc, ring, me, durable, soft, before, more)
-}
-
-/// A second reply of one voter changes nothing.
-fn count_answer(
-    alloc: Global,
-    ring: &Ring,
-    me: NodeId,
-    durable: &Durable,
-    soft: Soft,
     from: NodeId,
     reply: &MockReply,
-    poll: Poll,
-) -> Result<Step, Memory>
-    requires { reply.now.round ≡ poll.round }
-    ensures { IfOk result (λ it. it ≡ spec.count_answer ring.now me durable.now soft from reply.now poll.leader poll.last poll.passed poll.failed) }
-{
-    if is_listed(poll.passed.as_slice(), from) || is_listed(poll.failed.as_slice(), from) {
-        return Ok(idle(alloc, soft));
-    }
-    if reply.ok {
-        count_passed(alloc, ring, me, durable, soft, from, poll)
-    } else {
-        count_failed(alloc, ring, me, durable, soft, from, poll)
-    }
-}
-
-/// A reply of another term or round is not heard.
-fn poll_hears(
-    alloc: Global,
-    ring: &Ring,
-    me: NodeId,
-    durable: &Durable,
-    soft: Soft,
-    from: NodeId,
-    reply: &MockReply,
-    poll: Poll,
-) -> Result<Step, Memory>
-    ensures { IfOk result (λ it. it ≡ spec.mock_hears ring.now me durable.now soft from reply.now (mock.On poll.leader poll.round poll.last poll.passed poll.failed)) }
-{
-    if reply.term == durable.term && reply.round == poll.round {
-        count_answer(alloc, ring, me, durable, soft, from, reply, poll)
-    } else {
-        Ok(idle(alloc, soft))
-    }
-}
-
-fn mock_hears(
-    alloc: Global,
-    ring: &Ring,
-    me: NodeId,
-    durable: &Durable,
-    soft: Soft,
-    from: NodeId,
-    reply: &MockReply,
-    mock: Mock,
-) -> Result<Step, Memory>
-    ensures { IfOk result (λ it. it ≡ spec.mock_hears ring.now me durable.now soft from reply.now mock) }
+) -> Result<Option<Poll>, Memory>
+    ensures { IfOk result (λ it. it ≡ own.heard_poll mock.now term from reply.now) }
 {
     match mock {
-        Mock::Off => Ok(idle(alloc, soft)),
+        Mock::Off => Ok(None),
         Mock::On {
             leader,
             round,
@@ -189,31 +173,40 @@ fn mock_hears(
             passed,
             failed,
         } => {
-            let poll = Poll {
-                leader,
-                round,
-                last,
-                passed,
-                failed,
-            };
-            poll_hears(alloc, ring, me, durable, soft, from, reply, poll)
+            if reply.term != term || reply.round != *round {
+                return Ok(None);
+            }
+            if is_listed(passed.as_slice(), from) || is_listed(failed.as_slice(), from) {
+                return Ok(None);
+            }
+            Ok(Some(Poll {
+                leader: *leader,
+                round: *round,
+                last: *last,
+                passed: passed.copy(alloc)?,
+                failed: failed.copy(alloc)?,
+            }))
         }
     }
 }
 
-/// The step of a target that hears the reply of the voter `from`.
-#[tactic(auto, unfolding(ring_model::specs::Transfers::on_mock_reply))]
-pub fn on_mock_reply(
+/// What the target sends once it counted a reply: the result, in the step that decides it. `before` is
+/// how the mock election was decided without that reply.
+pub(crate) fn deciding(
     alloc: Global,
     ring: &Ring,
     me: NodeId,
-    durable: &Durable,
-    soft: Soft,
-    from: NodeId,
-    reply: &MockReply,
-) -> Result<Step, Memory>
-    ensures { IfOk result (λ it. it ≡ spec.on_mock_reply ring.now me durable.now soft from reply.now) }
+    term: u64,
+    before: Option<bool>,
+    poll: &Poll,
+) -> Result<List<Message>, Memory>
+    ensures { IfOk result (λ it. it ≡ own.deciding_now ring.now me term before poll.now) }
 {
-    let mock = soft.mock.copy(alloc)?;
-    mock_hears(alloc, ring, me, durable, soft, from, reply, mock)
+    match before {
+        Some(_) => Ok(List::new(alloc)),
+        None => match poll.verdict(alloc, ring, me)? {
+            None => Ok(List::new(alloc)),
+            Some(ok) => List::of_one(alloc, poll.result(me, term, ok)),
+        },
+    }
 }

@@ -48,6 +48,13 @@ impl History {
         })
     }
 
+    /// The kept votes, in rising terms, lent.
+    pub fn votes(&self) -> &[Vote]
+        ensures { result.now ≡ self.now }
+    {
+        self.votes.as_slice()
+    }
+
     /// The candidate for whom the vote of that term was cast.
     pub fn vote_in(&self, term: u64) -> Option<NodeId>
         ensures { result ≡ option_map (λ (v : Vote). v.candidate) (acts.vote_in self.now term) }

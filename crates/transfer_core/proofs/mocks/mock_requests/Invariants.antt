@@ -5,4 +5,4 @@ use Rattle.transfer_core.proofs.mocks.mock_requests.Given as goal
 
 abbrev pub invariant-loop-member : goal.invariant-loop-member
 invariant-loop-member l =
-    l.requests ++ spec.mock_requests l.me l.term l.round l.asked (drop l.member-index l.members) ≡ spec.mock_requests l.me l.term l.round l.asked l.members
+    l.requests ++ spec.mock_requests l.me l.asked.term l.asked.round l.asked.last (drop l.member-index l.members) ≡ spec.mock_requests l.me l.asked.term l.asked.round l.asked.last l.members

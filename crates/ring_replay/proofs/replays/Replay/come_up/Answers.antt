@@ -1,21 +1,38 @@
-use Rattle.std.proofs.Common.{ap, refl}
+use Rattle.std.proofs.Common.{[], Option, refl, subst}
 use Rattle.ring_model.specs.Worlds.{ComeUp}
-use Rattle.ring_replay.specs.Replays.{tables_of}
-use Rattle.ring_replay.specs.declared.turns.Turn.{Turn}
-use Rattle.ring_replay.specs.Steps.{restarted_node}
-use Rattle.ring_replay.proofs.Grows.{quiet_keeps}
-use Rattle.ring_replay.proofs.Held.{kept_turn}
+use Rattle.ring_model.specs.declared.worlds.Shown.{Shown}
+use Rattle.ring_replay.specs.Fit.{KeepsChosen}
+use Rattle.ring_replay.specs.Steps.{restarted_node, turn_of}
+use Rattle.ring_replay.proofs.Held.{some_there}
+use Rattle.ring_replay.proofs.Turning.{few_after, held_after, inside_after, keeps_after, world_after}
 use Rattle.ring_replay.proofs.replays.Replay.come_up.Goals as goal
 
-pub take_turn-requires-clause-keeps : goal.take_turn-requires-clause-keeps
-take_turn-requires-clause-keeps c =
-    let out = c.take_out-shown in
-    quiet_keeps c.args.ring.now c.args.self.now.world out.new.self.world c.args.place out.result
-    (restarted_node out.result) c.in_ok-turn.turn ComeUp out.ensures.shown out.ensures.rest c.in_ok-turn.ensures refl c.requires.keeps
+pub start_at-requires-clause-log : goal.start_at-requires-clause-log
+start_at-requires-clause-log c = λ s at. (c.requires.fit.nodes c.args.place s at).part.0.log
+
+pub keep_turn-requires-clause-few : goal.keep_turn-requires-clause-few
+keep_turn-requires-clause-few c =
+    let p = some_there c.args.self.now.world.nodes c.args.place c.requires.node in
+    few_after c.args.self.now.world c.start_at.new.self.world c.args.place _ (restarted_node p.0) (c.in_ok-start_at.ensures.world p.0 p.1) c.requires.few
+
+pub keep_turn-requires-clause-node : goal.keep_turn-requires-clause-node
+keep_turn-requires-clause-node c =
+    let p = some_there c.args.self.now.world.nodes c.args.place c.requires.node in
+    inside_after c.args.self.now.world c.start_at.new.self.world c.args.place (restarted_node p.0) (c.in_ok-start_at.ensures.world p.0 p.1) c.requires.node
+
+pub keep_turn-requires-clause-keeps : goal.keep_turn-requires-clause-keeps
+keep_turn-requires-clause-keeps c = λ s at.
+    let p = some_there c.args.self.now.world.nodes c.args.place c.requires.node in
+    let keeps = subst (λ (o : Option Shown). KeepsChosen c.args.self.now.world (turn_of c.args.ring.now c.args.self.now.world c.args.place ComeUp o)) p.1 c.requires.keeps in
+    keeps_after c.args.self.now.world c.start_at.new.self.world c.args.place (restarted_node p.0) s _ [] _ [] (c.in_ok-start_at.ensures.world p.0 p.1) c.requires.node c.new.ensures refl keeps at
+
+pub returns-clause-world : goal.returns-clause-world
+returns-clause-world c =
+    let p = some_there c.args.self.now.world.nodes c.args.place c.requires.node in
+    let made = world_after c.keep_turn.result c.args.self.now.world c.start_at.new.self.world c.keep_turn.new.self.world c.args.place (restarted_node p.0) _ [] _ [] (c.in_ok-start_at.ensures.world p.0 p.1) c.requires.node c.new.ensures refl c.keep_turn.ensures.world in
+    rw p.1 made
 
 pub returns-clause-held : goal.returns-clause-held
 returns-clause-held c =
-    let ring = c.args.ring.now in
-    let out = c.take_out-shown in
-    kept_turn ring c.args.self.now out.new.self c.take_turn.new.self c.args.place out.result c.in_ok-turn.turn c.take_turn.result c.requires.held out.ensures.shown
-    (ap (λ (t : Turn). tables_of ring t.shown) c.in_ok-turn.ensures) out.ensures.rest out.ensures.tables c.take_turn.ensures.world c.take_turn.ensures.tables
+    let p = some_there c.args.self.now.world.nodes c.args.place c.requires.node in
+    held_after c.args.ring.now c.keep_turn.result c.args.self.now c.start_at.new.self c.keep_turn.new.self c.args.place (restarted_node p.0) _ _ (c.in_ok-start_at.ensures.world p.0 p.1) c.requires.node (c.in_ok-start_at.ensures.held c.args.ring.now c.requires.held) c.keep_turn.ensures.world c.keep_turn.ensures.engines

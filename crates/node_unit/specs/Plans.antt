@@ -1,0 +1,32 @@
+-- What a plan may fail by, and the one input that is composed of two rules.
+use Rattle.std.specs.Prelude.{◌≡◌, ℕ, Bool, true, false, Result, Err}
+use Rattle.edge_traits.specs.Counts.{Rose}
+use Rattle.ring_model.specs.Steps.{idle}
+use Rattle.ring_model.specs.declared.effects.Plan.{Plan}
+use Rattle.ring_model.specs.declared.effects.Step.{Step}
+use Rattle.ring_model.specs.declared.faults.CoreFault.{CoreFault}
+use Rattle.ring_model.specs.declared.faults.CoreFault.TheVariants as fault
+use Rattle.ring_model.specs.declared.messages.Body.{Body}
+use Rattle.ring_model.specs.declared.messages.Body.TheVariants as body
+use Rattle.ring_model.specs.declared.messages.Input.{Input}
+use Rattle.ring_model.specs.declared.messages.Input.TheVariants as input
+use Rattle.ring_model.specs.declared.nodes.Soft.{Soft}
+
+-- a fault of the disk comes only where the count of faults rose
+abbrev pub StepFails : ℕ → ℕ → Result Plan CoreFault → Type 0
+StepFails before now (Err fault.Disk) = Rose before now
+StepFails before now _ = Unit {0}
+
+-- where the plan is torn nothing happens in the step
+abbrev pub TornRests : Step → Soft → Result Plan CoreFault → Type 0
+TornRests st s (Err (fault.Torn position kept sent)) = st ≡ idle s
+TornRests st s _ = Unit {0}
+
+-- an answer to entries is replication's rule, then the transfer's
+abbrev pub is_answer : Body → Bool
+is_answer (body.AppendReply answer) = true
+is_answer _ = false
+
+abbrev pub is_answer_input : Input → Bool
+is_answer_input (input.Deliver m) = is_answer m.body
+is_answer_input _ = false
