@@ -106,4 +106,3 @@ pub fn grant(voter: u32, votes: List<Vote>) -> Grant {
         votes,
     }
 }
-
