@@ -77,6 +77,32 @@ fn ring(rt: &(impl AllocGlobal + Abort), regions: List<Text>, members: List<Memb
     Ring::build(rt.alloc(), parts).expect(rt, "a ring")
 }
 
+fn ring_of_one(rt: &(impl AllocGlobal + Abort), kind: Kind) -> Ring {
+    ring(
+        rt,
+        one(rt, text(rt, "a")),
+        one(rt, member(rt, 1, "a", kind)),
+    )
+}
+
+/// The voter 1 alone.
+pub fn lone(rt: &(impl AllocGlobal + Abort)) -> Ring {
+    ring_of_one(rt, Kind::Full)
+}
+
+/// The logtailer 1 alone.
+pub fn lone_tailer(rt: &(impl AllocGlobal + Abort)) -> Ring {
+    ring_of_one(rt, Kind::Tailer)
+}
+
+/// The voters 1, 2 and 3 in one region; 2 has no engine.
+pub fn three(rt: &(impl AllocGlobal + Abort)) -> Ring {
+    let first = one(rt, member(rt, 1, "a", Kind::Full));
+    let two = with(rt, first, member(rt, 2, "a", Kind::Tailer));
+    let all = with(rt, two, member(rt, 3, "a", Kind::Full));
+    ring(rt, one(rt, text(rt, "a")), all)
+}
+
 fn spread_members(rt: &(impl AllocGlobal + Abort)) -> List<MemberPart> {
     let first = one(rt, member(rt, 1, "a", Kind::Full));
     let two = with(rt, first, member(rt, 2, "b", Kind::Full));
