@@ -38,6 +38,12 @@ not_torn (Some log) before now (Err fault.Disk) st s h = tt
 not_torn (Some log) before now (Err (fault.Torn position kept sent)) st s h = absurd h
 not_torn (Some log) before now (Err fault.Memory) st s h = tt
 
+pub rests_always : (before now : ℕ) (r : Result Plan CoreFault) (st : Step) (s : Soft) → CoreFails before now r → TornRests st s r
+rests_always before now (Ok plan) st s h = tt
+rests_always before now (Err fault.Disk) st s h = tt
+rests_always before now (Err (fault.Torn position kept sent)) st s h = absurd h
+rests_always before now (Err fault.Memory) st s h = tt
+
 at_tear : (ring : Layout) (me : ℕ) (d : Durable) (s : Soft) (sent : Append) (t : Tear) (o : Option Tear) → o ≡ Some t
     → (elim o [ Some u ↦ idle s | None ↦ follow_append ring me d s sent ]) ≡ idle s
 at_tear ring me d s sent t None is = absurd cc

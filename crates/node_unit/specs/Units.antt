@@ -42,5 +42,10 @@ abbrev pub after_answer : Shown → Option Step → Shown
 after_answer s None = s
 after_answer s (Some st) = ended_node s st
 
+-- the node with its plan made, and nothing of it done
+abbrev pub after_plan : Shown → Option Step → Shown
+after_plan s None = s
+after_plan s (Some st) = record s { soft = Some st.soft }
+
 abbrev pub outcome_of : Step → Outcome
 outcome_of st = record { messages = st.plan.messages; says = st.plan.says }

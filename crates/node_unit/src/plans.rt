@@ -1,6 +1,8 @@
 ghost use Rattle.std.specs.Prelude.{◌≡◌, ◌&&◌, [], false, IfOk, OnErr};
+ghost use Rattle.commit_pipeline.specs.Faults.{CoreFails};
+ghost use Rattle.edge_traits.specs.Views.{Keeps};
 ghost use Rattle.node_store.specs.Stores.{engine_for};
-ghost use Rattle.node_unit.specs.Plans.{TornRests, is_answer_input};
+ghost use Rattle.node_unit.specs.Plans.{IsRead, StepFails, TornRests, is_answer_input};
 ghost use Rattle.ring_lawful.specs.EachStep.{IsFitNode, IsFitPart, IsGood};
 ghost use Rattle.ring_model.specs.Dispatch as dispatch;
 ghost use Rattle.ring_model.specs.Replication as replication;
@@ -10,101 +12,99 @@ ghost use Rattle.ring_model.specs.declared.messages.Body.TheVariants as body;
 use crate::dispatch::plan;
 use crate::foreign::is_foreign;
 use commit_pipeline::{Here, idle, is_leader};
+use edge_traits::LogView;
 use node_store::NodeStore;
 use replicate_core::on_ack;
 use ring_model::{AppendReply, Body, CoreFault, Input, Message, Plan, Soft};
-use ring_types::{Memory, NodeId, Ring};
-use std::alloc::{AllocError, Global};
+use ring_types::{NodeId, Ring};
+use std::alloc::Global;
 use transfer_core::after_ack;
 
-fn plan_over(
+/// What rules read of a node beside its log and what it has in memory.
+#[derive(Drop)]
+pub(crate) struct Kept<'a> {
+    pub ring: &'a Ring,
+    pub me: NodeId,
+    pub store: &'a NodeStore,
+}
+
+// What a rule is handed of a node, with its log through a view.
+macro_rules! here_of {
+    ($kept:ident, $view:ident) => {
+        Here {
+            view: $view,
+            ring: $kept.ring,
+            me: $kept.me,
+            term: $kept.store.term(),
+            history: $kept.store.history(),
+            gtids: $kept.store.gtids(),
+            tables: $kept.store.tables(),
+            applied: $kept.store.applied(),
+            prepared: $kept.store.prepared(),
+            file: $kept.store.file(),
+        }
+    };
+}
+
+/// The plan of an input other than an answer to entries.
+fn plan_over<V: LogView>(
     alloc: Global,
-    ring: &Ring,
-    me: NodeId,
-    store: &NodeStore,
+    kept: &Kept<'_>,
+    view: &mut V,
     soft: &mut Soft,
     input: &Input,
 ) -> Result<Plan, CoreFault>
-    requires of { store.now.engine ≡ engine_for ring.now me }
-    requires fit { IsFitNode ring.now me store.now.durable soft.old }
-    requires good { IsGood ring.now input.now }
+    requires of { kept.now.store.now.engine ≡ engine_for kept.now.ring.now kept.now.me }
+    requires fit { IsFitNode kept.now.ring.now kept.now.me kept.now.store.now.durable soft.old }
+    requires read { IsRead V.stands V.sees kept.now.ring.now kept.now.store.now.durable view.old }
+    requires good { IsGood kept.now.ring.now input.now }
     requires other { is_answer_input input.now ≡ false }
-    ensures told { IfOk result (λ it. dispatch.step ring.now me store.now.durable soft.old input.now ≡ record { plan = it; soft = soft.new }) }
-    ensures torn { TornRests (dispatch.step ring.now me store.now.durable soft.old input.now) soft.old result }
+    ensures told { IfOk result (λ it. dispatch.step kept.now.ring.now kept.now.me kept.now.store.now.durable soft.old input.now ≡ record { plan = it; soft = soft.new }) }
+    ensures torn { TornRests (dispatch.step kept.now.ring.now kept.now.me kept.now.store.now.durable soft.old input.now) soft.old result }
     ensures stays { OnErr result (soft.new ≡ soft.old) }
+    ensures keeps { Keeps V.sees V.behind V.stands V.faults view.old view.new }
+    ensures failed { StepFails (V.faults view.old) (V.faults view.new) result }
 {
-    let mut view = store.view(ring);
-    let here = Here {
-        view: &mut view,
-        ring,
-        me,
-        term: store.term(),
-        history: store.history(),
-        gtids: store.gtids(),
-        tables: store.tables(),
-        applied: store.applied(),
-        prepared: store.prepared(),
-        file: store.file(),
-    };
+    let here = here_of!(kept, view);
     plan(alloc, here, soft, input)
 }
 
 /// Replication's rule of an answer to entries.
-fn acked(
+fn acked<V: LogView>(
     alloc: Global,
-    ring: &Ring,
-    me: NodeId,
-    store: &NodeStore,
+    kept: &Kept<'_>,
+    view: &mut V,
     soft: &mut Soft,
     from: NodeId,
     reply: &AppendReply,
 ) -> Result<Plan, CoreFault>
-    requires of { store.now.engine ≡ engine_for ring.now me }
-    requires fit { IsFitNode ring.now me store.now.durable soft.old }
-    ensures told { IfOk result (λ it. replication.on_ack ring.now me store.now.durable soft.old from reply.now ≡ record { plan = it; soft = soft.new }) }
+    requires of { kept.now.store.now.engine ≡ engine_for kept.now.ring.now kept.now.me }
+    requires fit { IsFitNode kept.now.ring.now kept.now.me kept.now.store.now.durable soft.old }
+    requires read { IsRead V.stands V.sees kept.now.ring.now kept.now.store.now.durable view.old }
+    ensures told { IfOk result (λ it. replication.on_ack kept.now.ring.now kept.now.me kept.now.store.now.durable soft.old from reply.now ≡ record { plan = it; soft = soft.new }) }
+    ensures keeps { Keeps V.sees V.behind V.stands V.faults view.old view.new }
+    ensures failed { CoreFails (V.faults view.old) (V.faults view.new) result }
 {
-    let mut view = store.view(ring);
-    let here = Here {
-        view: &mut view,
-        ring,
-        me,
-        term: store.term(),
-        history: store.history(),
-        gtids: store.gtids(),
-        tables: store.tables(),
-        applied: store.applied(),
-        prepared: store.prepared(),
-        file: store.file(),
-    };
+    let here = here_of!(kept, view);
     on_ack(alloc, here, soft, from, reply)
 }
 
 /// The transfer's rule after an answer that counts.
-fn handed_on(
+fn handed_on<V: LogView>(
     alloc: Global,
-    ring: &Ring,
-    me: NodeId,
-    store: &NodeStore,
+    kept: &Kept<'_>,
+    view: &mut V,
     soft: &mut Soft,
     from: NodeId,
 ) -> Result<Plan, CoreFault>
-    requires fit { IsFitPart ring.now me store.now.durable }
-    ensures told { IfOk result (λ it. it ≡ record { actions = []; messages = transfers.after_ok me store.now.durable soft.old.peers from soft.old.transfer; says = [] }) }
+    requires fit { IsFitPart kept.now.ring.now kept.now.me kept.now.store.now.durable }
+    requires read { IsRead V.stands V.sees kept.now.ring.now kept.now.store.now.durable view.old }
+    ensures told { IfOk result (λ it. it ≡ record { actions = []; messages = transfers.after_ok kept.now.me kept.now.store.now.durable soft.old.peers from soft.old.transfer; says = [] }) }
     ensures stays { soft.new ≡ soft.old }
+    ensures keeps { Keeps V.sees V.behind V.stands V.faults view.old view.new }
+    ensures failed { CoreFails (V.faults view.old) (V.faults view.new) result }
 {
-    let mut view = store.view(ring);
-    let here = Here {
-        view: &mut view,
-        ring,
-        me,
-        term: store.term(),
-        history: store.history(),
-        gtids: store.gtids(),
-        tables: store.tables(),
-        applied: store.applied(),
-        prepared: store.prepared(),
-        file: store.file(),
-    };
+    let here = here_of!(kept, view);
     after_ack(alloc, here, soft, from)
 }
 
@@ -119,21 +119,23 @@ fn counts(store: &NodeStore, soft: &Soft, reply: &AppendReply) -> bool
 }
 
 /// An answer to entries is replication's rule, then the transfer's.
-fn answer_plan(
+fn answer_plan<V: LogView>(
     alloc: Global,
-    ring: &Ring,
-    me: NodeId,
-    store: &NodeStore,
+    kept: &Kept<'_>,
+    view: &mut V,
     soft: &mut Soft,
     from: NodeId,
     reply: &AppendReply,
 ) -> Result<Plan, CoreFault>
-    requires of { store.now.engine ≡ engine_for ring.now me }
-    requires fit { IsFitNode ring.now me store.now.durable soft.old }
-    ensures told { IfOk result (λ it. transfers.on_answer ring.now me store.now.durable soft.old from reply.now ≡ record { plan = it; soft = soft.new }) }
+    requires of { kept.now.store.now.engine ≡ engine_for kept.now.ring.now kept.now.me }
+    requires fit { IsFitNode kept.now.ring.now kept.now.me kept.now.store.now.durable soft.old }
+    requires read { IsRead V.stands V.sees kept.now.ring.now kept.now.store.now.durable view.old }
+    ensures told { IfOk result (λ it. transfers.on_answer kept.now.ring.now kept.now.me kept.now.store.now.durable soft.old from reply.now ≡ record { plan = it; soft = soft.new }) }
+    ensures keeps { Keeps V.sees V.behind V.stands V.faults view.old view.new }
+    ensures failed { CoreFails (V.faults view.old) (V.faults view.new) result }
 {
-    let hands_on = counts(store, soft, reply);
-    let plan = acked(alloc, ring, me, store, soft, from, reply)?;
+    let hands_on = counts(kept.store, soft, reply);
+    let plan = acked(alloc, kept, view, soft, from, reply)?;
     if !hands_on {
         return Ok(plan);
     }
@@ -142,7 +144,7 @@ fn answer_plan(
         messages,
         says,
     } = plan;
-    let more = handed_on(alloc, ring, me, store, soft, from)?;
+    let more = handed_on(alloc, kept, view, soft, from)?;
     let mut messages = messages;
     let Ok(()) = messages.append(more.messages) else {
         return Err(CoreFault::Memory);
@@ -155,70 +157,52 @@ fn answer_plan(
 }
 
 /// The plan of a message that answers entries: a foreign one does nothing.
-fn heard(
+fn heard<V: LogView>(
     alloc: Global,
-    ring: &Ring,
-    me: NodeId,
-    store: &NodeStore,
+    kept: &Kept<'_>,
+    view: &mut V,
     soft: &mut Soft,
     message: &Message,
     reply: &AppendReply,
-) -> Result<Plan, Memory>
-    requires of { store.now.engine ≡ engine_for ring.now me }
-    requires fit { IsFitNode ring.now me store.now.durable soft.old }
+) -> Result<Plan, CoreFault>
+    requires of { kept.now.store.now.engine ≡ engine_for kept.now.ring.now kept.now.me }
+    requires fit { IsFitNode kept.now.ring.now kept.now.me kept.now.store.now.durable soft.old }
+    requires read { IsRead V.stands V.sees kept.now.ring.now kept.now.store.now.durable view.old }
     requires is { message.now.body ≡ body.AppendReply reply.now }
-    ensures told { IfOk result (λ it. dispatch.deliver ring.now me store.now.durable soft.old message.now ≡ record { plan = it; soft = soft.new }) }
+    ensures told { IfOk result (λ it. dispatch.deliver kept.now.ring.now kept.now.me kept.now.store.now.durable soft.old message.now ≡ record { plan = it; soft = soft.new }) }
+    ensures keeps { Keeps V.sees V.behind V.stands V.faults view.old view.new }
+    ensures failed { CoreFails (V.faults view.old) (V.faults view.new) result }
 {
-    if is_foreign(ring, me, message) {
+    if is_foreign(kept.ring, kept.me, message) {
         return Ok(idle(alloc));
     }
-    let from = NodeId(message.from);
-    match answer_plan(alloc, ring, me, store, soft, from, reply) {
-        Ok(plan) => Ok(plan),
-        Err(_) => Err(AllocError),
-    }
+    answer_plan(alloc, kept, view, soft, NodeId(message.from), reply)
 }
 
-/// The plan of another input. Where it is torn nothing happens.
-fn rested(
+/// The plan of a running node on an input, with its log read through a view. After a fault other than
+/// of an answer to entries, what the node has in memory is as it was.
+#[tactic(auto, using(crate::proofs::Torn::fails, crate::proofs::Torn::rests_always))]
+pub(crate) fn planned<V: LogView>(
     alloc: Global,
-    ring: &Ring,
-    me: NodeId,
-    store: &NodeStore,
+    kept: &Kept<'_>,
+    view: &mut V,
     soft: &mut Soft,
     input: &Input,
-) -> Result<Plan, Memory>
-    requires of { store.now.engine ≡ engine_for ring.now me }
-    requires fit { IsFitNode ring.now me store.now.durable soft.old }
-    requires good { IsGood ring.now input.now }
-    requires other { is_answer_input input.now ≡ false }
-    ensures told { IfOk result (λ it. dispatch.step ring.now me store.now.durable soft.old input.now ≡ record { plan = it; soft = soft.new }) }
-{
-    match plan_over(alloc, ring, me, store, soft, input) {
-        Ok(plan) => Ok(plan),
-        Err(CoreFault::Torn { .. }) => Ok(idle(alloc)),
-        Err(_) => Err(AllocError),
-    }
-}
-
-/// The plan of a running node on an input, over what its store keeps.
-pub(crate) fn planned(
-    alloc: Global,
-    ring: &Ring,
-    me: NodeId,
-    store: &NodeStore,
-    soft: &mut Soft,
-    input: &Input,
-) -> Result<Plan, Memory>
-    requires of { store.now.engine ≡ engine_for ring.now me }
-    requires fit { IsFitNode ring.now me store.now.durable soft.old }
-    requires good { IsGood ring.now input.now }
-    ensures told { IfOk result (λ it. dispatch.step ring.now me store.now.durable soft.old input.now ≡ record { plan = it; soft = soft.new }) }
+) -> Result<Plan, CoreFault>
+    requires of { kept.now.store.now.engine ≡ engine_for kept.now.ring.now kept.now.me }
+    requires fit { IsFitNode kept.now.ring.now kept.now.me kept.now.store.now.durable soft.old }
+    requires read { IsRead V.stands V.sees kept.now.ring.now kept.now.store.now.durable view.old }
+    requires good { IsGood kept.now.ring.now input.now }
+    ensures told { IfOk result (λ it. dispatch.step kept.now.ring.now kept.now.me kept.now.store.now.durable soft.old input.now ≡ record { plan = it; soft = soft.new }) }
+    ensures torn { TornRests (dispatch.step kept.now.ring.now kept.now.me kept.now.store.now.durable soft.old input.now) soft.old result }
+    ensures stays { is_answer_input input.now ≡ false → OnErr result (soft.new ≡ soft.old) }
+    ensures keeps { Keeps V.sees V.behind V.stands V.faults view.old view.new }
+    ensures failed { StepFails (V.faults view.old) (V.faults view.new) result }
 {
     if let Input::Deliver(message) = input
         && let Body::AppendReply(reply) = &message.body
     {
-        return heard(alloc, ring, me, store, soft, message, reply);
+        return heard(alloc, kept, view, soft, message, reply);
     }
-    rested(alloc, ring, me, store, soft, input)
+    plan_over(alloc, kept, view, soft, input)
 }

@@ -1,19 +1,23 @@
-ghost use Rattle.std.specs.Prelude.{◌≡◌, ℕ, [], IfOk, OnOk, Some, None, take};
+ghost use Rattle.std.specs.Prelude.{◌≡◌, ℕ, [], false, IfOk, OnErr, OnOk, Some, None, take};
+ghost use Rattle.edge_traits.specs.Views.{Keeps};
 ghost use Rattle.std.specs.Option.{option_map};
 ghost use Rattle.node_store.specs.Stores.{engine_for};
-ghost use Rattle.node_unit.specs.Units.{IsOf, IsFitShown, answered, after_answer, node_of, outcome_of};
-ghost use Rattle.ring_lawful.specs.EachStep.{IsFitPart, IsGood};
+ghost use Rattle.node_unit.specs.Plans.{IsRead, PlanFails, RestsWhereTorn, is_answer_input, plan_of};
+ghost use Rattle.node_unit.specs.Units.{IsOf, IsFitShown, answered, after_answer, after_plan, node_of, outcome_of};
+ghost use Rattle.ring_lawful.specs.EachStep.{IsFitNode, IsFitPart, IsGood};
 ghost use Rattle.ring_types.specs.Logs.{IsLog};
 ghost use Rattle.ring_model.specs.Actions as acts;
 ghost use Rattle.ring_model.specs.Dispatch as dispatch;
 ghost use Rattle.ring_model.specs.Nodes as nodes;
 ghost use Rattle.ring_model.specs.Worlds as worlds;
 
-use crate::plans::planned;
+use crate::plans::{Kept, planned};
+use commit_pipeline::idle;
+use edge_traits::LogView;
 use node_store::NodeStore;
-use ring_model::{Action, Input, Mock, Outcome, Plan, Role, Shown, Soft, Transfer};
+use ring_model::{Action, CoreFault, Input, Mock, Outcome, Plan, Role, Shown, Soft, Transfer};
 use ring_types::{Entry, List, Memory, NodeId, Ring};
-use std::alloc::Global;
+use std::alloc::{AllocError, Global};
 use std::marker::Model;
 
 /// A node: what it keeps and, while it runs, what it has in memory.
@@ -46,6 +50,29 @@ fn fresh_soft(alloc: Global, applied: u64) -> Soft
         pending: List::new(alloc),
         transfer: Transfer::Off,
         mock: Mock::Off,
+    }
+}
+
+/// The plan of an input with the log read in memory. Where it is torn nothing happens.
+fn plan_in_memory(
+    alloc: Global,
+    ring: &Ring,
+    me: NodeId,
+    store: &NodeStore,
+    soft: &mut Soft,
+    input: &Input,
+) -> Result<Plan, Memory>
+    requires of { store.now.engine ≡ engine_for ring.now me }
+    requires fit { IsFitNode ring.now me store.now.durable soft.old }
+    requires good { IsGood ring.now input.now }
+    ensures told { IfOk result (λ it. dispatch.step ring.now me store.now.durable soft.old input.now ≡ record { plan = it; soft = soft.new }) }
+{
+    let mut view = store.view(ring);
+    let kept = Kept { ring, me, store };
+    match planned(alloc, &kept, &mut view, soft, input) {
+        Ok(plan) => Ok(plan),
+        Err(CoreFault::Torn { .. }) => Ok(idle(alloc)),
+        Err(_) => Err(AllocError),
     }
 }
 
@@ -97,7 +124,7 @@ impl Unit {
         let Some(mut soft) = self.soft.take() else {
             return Ok(None);
         };
-        let plan = planned(alloc, ring, self.me, &self.store, &mut soft, input)?;
+        let plan = plan_in_memory(alloc, ring, self.me, &self.store, &mut soft, input)?;
         let Plan {
             actions,
             messages,
@@ -106,6 +133,43 @@ impl Unit {
         act_all(&mut self.store, ring, self.me, actions)?;
         self.soft = Some(soft);
         Ok(Some(Outcome { messages, says }))
+    }
+
+    /// The plan of an input, made with the log read through a view that is not the unit's own, and what
+    /// the node has in memory then; nothing of it is done. None where the node is down. A unit that
+    /// planned is no longer fit until its plan is done.
+    pub fn plan<V: LogView>(
+        &mut self,
+        alloc: Global,
+        ring: &Ring,
+        view: &mut V,
+        input: &Input,
+    ) -> Result<Option<Plan>, CoreFault>
+        requires of { IsOf ring.now self.old }
+        requires fit { IsFitShown ring.now self.old.shown }
+        requires good { IsGood ring.now input.now }
+        requires read { IsRead V.stands V.sees ring.now self.old.shown.durable view.old }
+        ensures gives { IfOk result (λ it. it ≡ option_map plan_of (answered ring.now input.now self.old.shown)) }
+        ensures node { OnOk result (self.new ≡ record self.old { shown = after_plan self.old.shown (answered ring.now input.now self.old.shown) }) }
+        ensures torn { RestsWhereTorn self.old.shown.soft (answered ring.now input.now self.old.shown) result }
+        ensures stays { is_answer_input input.now ≡ false → OnErr result (self.new ≡ self.old) }
+        ensures keeps { Keeps V.sees V.behind V.stands V.faults view.old view.new }
+        ensures failed { PlanFails (V.faults view.old) (V.faults view.new) result }
+    {
+        let Some(mut soft) = self.soft.take() else {
+            return Ok(None);
+        };
+        let kept = Kept {
+            ring,
+            me: self.me,
+            store: &self.store,
+        };
+        let planned = planned(alloc, &kept, view, &mut soft, input);
+        self.soft = Some(soft);
+        match planned {
+            Ok(plan) => Ok(Some(plan)),
+            Err(fault) => Err(fault),
+        }
     }
 
     /// Takes an input, to its end, and gives what is sent and said; None where the node is down. What was

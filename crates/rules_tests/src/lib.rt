@@ -21,4 +21,6 @@ mod refusals;
 #[cfg(test)]
 mod units;
 #[cfg(test)]
+mod views;
+#[cfg(test)]
 mod writes;

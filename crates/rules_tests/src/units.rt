@@ -1,13 +1,17 @@
 //! A node from its first start on: how it stands for election, leads, writes and refuses.
-ghost use Rattle.std.specs.Prelude.{◌≡◌, ◌<◌, ◌≤◌, length};
+ghost use Rattle.std.specs.Prelude.{◌≡◌, ◌<◌, ◌≤◌, false, length};
+ghost use Rattle.node_unit.specs.Plans.{is_answer_input};
 ghost use Rattle.node_unit.specs.Units.{IsOf, IsFitShown};
 ghost use Rattle.ring_lawful.specs.EachStep.{IsGood};
 ghost use Rattle.ring_types.specs.declared.limits.TheConstants.{TERM_END};
 
 use super::fixtures::{one, text};
 use node_unit::Unit;
-use ring_model::{AppendReply, Body, Input, Message, Outcome, RequestVote, Say, VoteReply, What};
-use ring_types::{Change, List, NodeId, Opid, Ring, Value};
+use ring_model::{
+    Append, AppendReply, Body, Input, Message, Outcome, ProxyAppend, RequestVote, Say, VoteReply,
+    What,
+};
+use ring_types::{Change, Entry, List, NodeId, Opid, Payload, RegionId, Ring, Value};
 use std::process::Abort;
 
 pub const CLIENT: u32 = 70000;
@@ -44,7 +48,8 @@ fn row(rt: &(impl AllocGlobal + Abort), table: &str, id: i64) -> Change {
 
 /// A client inserts a row with this key.
 pub fn insert(rt: &(impl AllocGlobal + Abort), ring: &Ring, table: &str, id: i64) -> Input
-    ensures { IsGood ring.now result }
+    ensures good { IsGood ring.now result }
+    ensures other { is_answer_input result ≡ false }
 {
     let changes = List::of_one(rt.alloc(), row(rt, table, id)).expect(rt, "memory");
     Input::Write {
@@ -56,7 +61,8 @@ pub fn insert(rt: &(impl AllocGlobal + Abort), ring: &Ring, table: &str, id: i64
 /// A voter's reply to node 1 that grants its vote and reports none.
 pub fn grants(rt: &(impl AllocGlobal + Abort), ring: &Ring, from: u32, term: u64) -> Input
     requires { term < TERM_END }
-    ensures { IsGood ring.now result }
+    ensures good { IsGood ring.now result }
+    ensures other { is_answer_input result ≡ false }
 {
     let reply = VoteReply {
         term,
@@ -91,7 +97,8 @@ pub fn holds(ring: &Ring, from: u32, term: u64, position: u64) -> Input
 /// A candidate with an empty log asks node 1 for its vote.
 pub fn asks(ring: &Ring, from: u32, term: u64) -> Input
     requires { term < TERM_END }
-    ensures { IsGood ring.now result }
+    ensures good { IsGood ring.now result }
+    ensures other { is_answer_input result ≡ false }
 {
     let last = Opid {
         term: 0,
@@ -101,6 +108,62 @@ pub fn asks(ring: &Ring, from: u32, term: u64) -> Input
         from,
         to: 1,
         body: Body::RequestVote(RequestVote { term, last }),
+    })
+}
+
+/// A leader of this term sends node 1 the first entry of its log, which is of that term.
+pub fn sends(rt: &(impl AllocGlobal + Abort), ring: &Ring, from: u32, term: u64) -> Input
+    requires above { 0 < term }
+    requires below { term < TERM_END }
+    ensures good { IsGood ring.now result }
+    ensures other { is_answer_input result ≡ false }
+{
+    let opid = Opid { term, position: 1 };
+    let entry = Entry {
+        opid,
+        region: RegionId(0),
+        payload: Payload::NoOp,
+    };
+    let sent = Append {
+        term,
+        leader: NodeId(from),
+        prev: Opid {
+            term: 0,
+            position: 0,
+        },
+        commit: 0,
+        entries: List::of_one(rt.alloc(), entry).expect(rt, "memory"),
+    };
+    Input::Deliver(Message {
+        from,
+        to: 1,
+        body: Body::Append(sent),
+    })
+}
+
+/// A leader asks node 1 to send on, as a proxy, the entry 1:1 in its name.
+pub fn relays(rt: &(impl AllocGlobal + Abort), ring: &Ring, from: u32, target: u32) -> Input
+    ensures good { IsGood ring.now result }
+    ensures other { is_answer_input result ≡ false }
+{
+    let opid = Opid {
+        term: 1,
+        position: 1,
+    };
+    let sent = ProxyAppend {
+        term: 1,
+        target: NodeId(target),
+        prev: Opid {
+            term: 0,
+            position: 0,
+        },
+        commit: 0,
+        opids: List::of_one(rt.alloc(), opid).expect(rt, "memory"),
+    };
+    Input::Deliver(Message {
+        from,
+        to: 1,
+        body: Body::ProxyAppend(sent),
     })
 }
 
