@@ -7,4 +7,5 @@ pub mod Held
 pub mod Turning
 pub mod Fit
 pub mod Grows
-pub mod Sent
+pub mod Queues
+pub mod Stretches

@@ -1,8 +1,8 @@
-ghost use Rattle.std.specs.Prelude.{◌≡◌, ◌+◌, ◌^◌, ◌<◌, ◌++◌, IfOk, OnOk, length, map};
+ghost use Rattle.std.specs.Prelude.{◌≡◌, ◌++◌, IfOk, OnOk, map};
 ghost use Rattle.ring_model.specs.Worlds as spec;
 
 use ring_model::{Message, Said, Say};
-use ring_types::{Duplicate, List, Memory, NodeId, after};
+use ring_types::{Duplicate, List, Memory, NodeId};
 use std::alloc::Global;
 
 /// A copy of the message of a number counted from 1.
@@ -20,26 +20,6 @@ pub(crate) fn message_at(
         Some(message) => Ok(Some(message.copy(alloc)?)),
         None => Ok(None),
     }
-}
-
-fn first_to(messages: &[Message], node: u32, cursor: u64) -> Option<u64>
-    requires { cursor + length messages.now < 2 ^ 64 }
-    ensures { result ≡ spec.next_from (cursor + 1) messages.now node cursor }
-{
-    for (i, message) in messages.iter().enumerate() {
-        if message.to == node {
-            return Some(cursor + i as u64 + 1);
-        }
-    }
-    None
-}
-
-/// The number of the first message to a node above its cursor.
-#[tactic(auto, using(crate::proofs::Sent::next_from_cursor))]
-pub(crate) fn next_to(messages: &[Message], node: u32, cursor: u64) -> Option<u64>
-    ensures { result ≡ spec.next_from 1 messages.now node cursor }
-{
-    first_to(after(messages, cursor), node, cursor)
 }
 
 /// What a node says in an event, at the end of what was said.

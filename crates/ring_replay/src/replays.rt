@@ -15,7 +15,8 @@ ghost use Rattle.ring_replay.specs.Steps as steps;
 use crate::beginnings::{first_cursors, first_units};
 use crate::chosen::grow;
 use crate::lines::{is_known, place_of};
-use crate::messages::{add_said, message_at, next_to};
+use crate::messages::{add_said, message_at};
+use crate::sent::Messages;
 use node_unit::Unit;
 use ring_model::{Event, Input, Line, Message, Outcome, Say, Shown, World};
 use ring_types::{List, Memory, NodeId, Ring};
@@ -34,12 +35,13 @@ pub enum EventError {
 
 /// A ring's run: the world after the events so far.
 ///
-/// The list of nodes of `world` stands empty: they are in `nodes`, so that a turn changes one in
-/// place.
+/// Two lists of `world` stand empty. Its nodes are in `nodes`, so that a turn changes one in place; its
+/// messages are in `sent`, beside what is known of where a node has none.
 #[derive(Drop)]
 pub struct Replay {
     world: World,
     nodes: Vec<Unit>,
+    sent: Messages,
 }
 
 impl Model for Replay {
@@ -49,7 +51,7 @@ impl Model for Replay {
 
     ghost Value = { ReplayState };
 
-    ghost view = { λ r. record { world = record r.world { nodes = map (λ (u : UnitState). u.shown) r.nodes.items }; engines = map (λ (u : UnitState). u.engine) r.nodes.items } };
+    ghost view = { λ r. record { world = record r.world { nodes = map (λ (u : UnitState). u.shown) r.nodes.items; messages = r.sent }; engines = map (λ (u : UnitState). u.engine) r.nodes.items } };
 }
 
 /// The nodes as a report shows them.
@@ -85,6 +87,7 @@ impl Replay {
                 chosen: List::new(alloc),
             },
             nodes,
+            sent: Messages::new(alloc),
         })
     }
 
@@ -116,7 +119,7 @@ impl Replay {
         let unit = &self.nodes[place];
         add_said(alloc, &mut self.world.said, event, unit.me(), says)?;
         grow(alloc, &mut self.world.chosen, unit)?;
-        self.world.messages.append(messages)
+        self.sent.append(messages)
     }
 
     /// The step of the node at a place on an input; None where it is down.
@@ -281,7 +284,7 @@ impl Replay {
         ensures world { OnOk result (self.new.world ≡ steps.shown_given ring.now self.old.world (message_at self.old.world.messages number)) }
         ensures held { OnOk result (HasEngines ring.now self.new) }
     {
-        match message_at(alloc, self.world.messages.as_slice(), number)? {
+        match message_at(alloc, self.sent.as_slice(), number)? {
             None => {
                 self.pass();
                 Ok(())
@@ -306,11 +309,13 @@ impl Replay {
         }
     }
 
-    fn next_to(&self, ring: &Ring, id: NodeId) -> Option<u64>
-        ensures { result ≡ steps.shown_next_to ring.now self.now.world id }
+    /// The number of the node's next message. It changes nothing that contracts see.
+    fn next_to(&mut self, ring: &Ring, id: NodeId) -> Option<u64>
+        ensures next { result ≡ steps.shown_next_to ring.now self.old.world id }
+        ensures same { self.new ≡ self.old }
     {
         let cursor = self.cursor(ring, id);
-        next_to(self.world.messages.as_slice(), id.0, cursor)
+        self.sent.next_to(id.0, cursor)
     }
 
     /// Moves the cursor of a node to the message of a number.
@@ -417,7 +422,7 @@ impl Replay {
     fn knows(&self, ring: &Ring, line: &Line) -> bool
         ensures { result ≡ steps.known_among ring.now self.now.world.messages line.now }
     {
-        is_known(ring, self.world.messages.as_slice(), line)
+        is_known(ring, self.sent.as_slice(), line)
     }
 
     /// Takes the next event, to its end. The ring is the one of `new`. After `Unknown` the replay is as
@@ -445,8 +450,12 @@ impl Replay {
     pub fn finish(self, alloc: Global) -> Result<World, Memory>
         ensures { IfOk result (λ it. it ≡ self.world) }
     {
-        let Replay { world, nodes } = self;
+        let Replay { world, nodes, sent } = self;
         let nodes = all_shown(alloc, nodes)?;
-        Ok(World { nodes, ..world })
+        Ok(World {
+            nodes,
+            messages: sent.into_list(),
+            ..world
+        })
     }
 }
