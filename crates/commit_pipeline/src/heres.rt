@@ -49,7 +49,7 @@ pub struct Leader<'a> {
 }
 
 impl<'a> Leader<'a> {
-    /// The leader of a node where a plan rolls no pair back and prepares none.
+    /// The node as a leader, under a plan that rolls no pair back and prepares none.
     pub fn new(
         ring: &'a Ring,
         me: NodeId,

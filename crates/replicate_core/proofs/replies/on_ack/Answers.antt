@@ -1,4 +1,4 @@
-use Rattle.std.proofs.Common.{◌≡◌, List, ◌∙◌}
+use Rattle.std.proofs.Common.{◌≡◌, List}
 use Rattle.ring_types.specs.declared.entries.Entry.{Entry}
 use Rattle.commit_pipeline.specs.Advances.{advanced, pairs_left, part_after}
 use Rattle.commit_pipeline.proofs.Counting.{same_told}
