@@ -27,11 +27,13 @@ use Rattle.ring_model.specs.declared.effects.What.TheVariants as what
 use Rattle.ring_model.specs.declared.faults.CoreFault.{CoreFault}
 use Rattle.commit_pipeline.specs.declared.advances.Advanced.{Advanced}
 use Rattle.commit_pipeline.specs.declared.heres.Here.{Here}
+use Rattle.commit_pipeline.specs.declared.heres.Leader.{Leader}
 use Rattle.commit_pipeline.specs.Advances.{advanced, part_after}
 use Rattle.commit_pipeline.specs.Heres.{IsNode, durable_of}
 use Rattle.commit_pipeline.specs.Refusals.{rotate_cause, is_full}
 use Rattle.commit_pipeline.specs.Written.{refused_plan, rotate_by}
-use Rattle.commit_pipeline.proofs.Writing.{step_of, next_is}
+use Rattle.commit_pipeline.proofs.Leading.{LeadsHere, by_parts}
+use Rattle.commit_pipeline.proofs.Writing.{step_of, next_is, settles}
 
 rotate_cause_same : (ring : Layout) (me : ℕ) (d : Durable) (s : Soft) → rotate_cause s (next_number (server_of ring me) d.log) (length d.log) (suc (rotates d.log)) ≡ rotate_refusal ring me d s
 unfolding rotate_refusal
@@ -70,24 +72,25 @@ refuses (Some log) here soft client end next c refusal (Ok plan) node whole from
     let h : rotate_refusal here.ring.now here.me (durable_of here log) soft ≡ Some c = sym (rotate_cause_is here soft log next end node whole from) ∙ (sym is ∙ some) in
     by_cause here.ring.now here.me (durable_of here log) soft client (Some c) h ∙ ap (λ (p : Plan). record { plan = p; soft = soft }) (sym made)
 
-pub rotates_on : {V : Type 0} (told : Option (List Entry)) (here : Here V) (soft : Soft) (client end : ℕ) (next : Option ℕ) (refusal : Option Cause) (pairs : List Pair) (peers : List Peer) (pending : List Pending) (it : Advanced)
+pub rotates_on : {V : Type 0} (told : Option (List Entry)) (here : Here V) (soft new : Soft) (client end : ℕ) (next : Option ℕ) (refusal : Option Cause) (leader : Leader) (it : Advanced) (plan : Plan)
     → IfSome told (IsNode here soft) → IfSome told (λ log. length log ≡ end) → next ≡ next_in (server_of here.ring.now here.me) here.gtids.now
-    → refusal ≡ rotate_cause soft next end here.file → refusal ≡ None → pairs ≡ here.prepared.now → peers ≡ soft.peers → pending ≡ soft.pending
-    → IfSome told (λ log. it ≡ rotate_by here.ring.now here.me here.term log here.applied pairs soft.commit peers pending client end)
-    → IfSome told (λ log. rotate here.ring.now here.me (durable_of here log) soft client ≡ step_of soft it)
-rotates_on None here soft client end next refusal pairs peers pending it node whole from is none same same2 same3 made = tt
-rotates_on (Some log) here soft client end next refusal pairs peers pending it node whole from is none same same2 same3 made =
+    → refusal ≡ rotate_cause soft next end here.file → refusal ≡ None → LeadsHere here soft leader
+    → IfSome told (λ log. it ≡ rotate_by leader.engine.ring.now leader.engine.me leader.term log leader.engine.applied leader.engine.pairs.now leader.commit leader.peers.now leader.pending.now client end)
+    → plan ≡ it.plan → new ≡ record soft { commit = it.commit; pending = it.pending }
+    → IfSome told (λ log. rotate here.ring.now here.me (durable_of here log) soft client ≡ record { plan = plan; soft = new })
+rotates_on None here soft new client end next refusal leader it plan node whole from is none leads made given settled = tt
+rotates_on (Some log) here soft new client end next refusal leader it plan node whole from is none leads made given settled =
     let ring = here.ring.now in
     let me = here.me in
     let d : Durable = durable_of here log in
     let h : rotate_refusal ring me d soft ≡ None = sym (rotate_cause_is here soft log next end node whole from) ∙ (sym is ∙ none) in
     let at : suc (length log) ≡ end + 1 = omega arith in
-    let R : List Pair → List Peer → List Pending → Advanced = λ ps xs ws. rotate_by ring me here.term log here.applied ps soft.commit xs ws client end in
-    let made2 : it ≡ R here.prepared.now soft.peers soft.pending = made ∙ (ap (λ (ps : List Pair). R ps peers pending) same ∙ ap₂ (R here.prepared.now) same2 same3) in
+    let R : Layout → ℕ → ℕ → ℕ → List Pair → ℕ → List Peer → List Pending → Advanced = λ r m n a ps c xs ws. rotate_by r m n log a ps c xs ws client end in
+    let made2 : it ≡ R ring me here.term here.applied here.prepared.now soft.commit soft.peers soft.pending = made ∙ by_parts R here soft leader leader.engine.pairs.now leads leads.pairs_are in
     by_cause ring me d soft client None h
     ∙ (rotated ring me d soft client (record { term = here.term; position = suc (length log) })
     ∙ (ap (λ (p : ℕ). step_of soft (rotated_at ring me d soft client (record { term = here.term; position = p }))) at
-    ∙ ap (step_of soft) (sym made2)))
+    ∙ (ap (step_of soft) (sym made2) ∙ settles soft new it plan given settled)))
 
 -- ---- one more file
 pub has_room : {V : Type 0} (told : Option (List Entry)) (here : Here V) (soft : Soft) (end : ℕ) (next : Option ℕ) (refusal : Option Cause)

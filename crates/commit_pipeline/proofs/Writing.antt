@@ -39,6 +39,8 @@ use Rattle.commit_pipeline.specs.declared.advances.Advanced.{Advanced}
 use Rattle.commit_pipeline.specs.Advances.{advanced, part_after, named_pair}
 use Rattle.commit_pipeline.specs.Heres.{IsNode, durable_of}
 use Rattle.commit_pipeline.specs.declared.heres.Here.{Here}
+use Rattle.commit_pipeline.specs.declared.heres.Leader.{Leader}
+use Rattle.commit_pipeline.specs.declared.writes.ClientWrite.{ClientWrite}
 use Rattle.commit_pipeline.specs.Counts.{count_of}
 use Rattle.edge_traits.specs.Views.{Sight}
 use Rattle.std.specs.Option.{option_copied}
@@ -46,7 +48,8 @@ use Rattle.ring_model.specs.declared.nodes.Peer.{Peer}
 use Rattle.ring_model.specs.declared.nodes.Pending.{Pending}
 use Rattle.ring_model.specs.declared.faults.CoreFault.{CoreFault}
 use Rattle.commit_pipeline.specs.Refusals.{write_cause, table_cause, change_cause, lock_cause, size_cause, is_full, txn_of}
-use Rattle.commit_pipeline.specs.Written.{refused_plan, write_by}
+use Rattle.commit_pipeline.specs.Written.{client_write, refused_plan, write_by}
+use Rattle.commit_pipeline.proofs.Leading.{LeadsHere, by_parts}
 use Rattle.commit_pipeline.proofs.Preparing.{added_prepared}
 
 -- ---- the refusal is that of the definition
@@ -176,6 +179,10 @@ follow-named ring me term log applied pairs p d commit a b e = rw (a, b, e) (go 
 abbrev pub step_of : Soft → Advanced → Step
 step_of s it = record { plan = it.plan; soft = record s { commit = it.commit; pending = it.pending } }
 
+-- a soft part and a plan to which what advanced was given
+pub settles : (soft new : Soft) (it : Advanced) (plan : Plan) → plan ≡ it.plan → new ≡ record soft { commit = it.commit; pending = it.pending } → step_of soft it ≡ record { plan = plan; soft = new }
+settles soft new it plan given settled = ap₂ (λ (p : Plan) (s : Soft). record { plan = p; soft = s }) (sym given) (sym settled)
+
 abbrev entry_of : Layout → ℕ → Opid → Txn → Entry
 entry_of ring me o t = record { opid = o; region = region_of ring me; payload = payload.Txn t }
 
@@ -206,11 +213,12 @@ abbrev pub asked_of : {V : Type 0} → Here V → Soft → Option ℕ → ℕ �
 asked_of here soft next end changes =
     write_cause soft (option_copied here.tables) here.ring.now.schema next end (payload.Txn (txn_of (server_of here.ring.now here.me) next changes)) here.prepared.now changes
 
-pub asked : {V : Type 0} (here : Here V) (soft : Soft) (schema : Schema) (next : Option ℕ) (end server : ℕ) (txn copy : Txn) (changes : List Change) (refusal : Option Cause)
-    → refusal ≡ write_cause soft (option_copied here.tables) schema next end (payload.Txn copy) here.prepared.now changes → schema ≡ here.ring.now.schema → copy ≡ txn → txn ≡ txn_of server next changes → server ≡ server_of here.ring.now here.me
+pub asked : {V : Type 0} (here : Here V) (soft : Soft) (schema : Schema) (next : Option ℕ) (end server client : ℕ) (w : ClientWrite) (changes : List Change) (refusal : Option Cause)
+    → refusal ≡ write_cause soft (option_copied here.tables) schema next end w.payload here.prepared.now changes → schema ≡ here.ring.now.schema → w ≡ client_write server next client changes → server ≡ server_of here.ring.now here.me
     → refusal ≡ asked_of here soft next end changes
-asked here soft schema next end server txn copy changes refusal is a b c e =
-    is ∙ ap₂ (λ (x : Schema) (t : Txn). write_cause soft (option_copied here.tables) x next end (payload.Txn t) here.prepared.now changes) a (b ∙ (c ∙ ap (λ (n : ℕ). txn_of n next changes) e))
+asked here soft schema next end server client w changes refusal is a b e =
+    is ∙ ap₂ (λ (x : Schema) (p : Payload). write_cause soft (option_copied here.tables) x next end p here.prepared.now changes) a
+    (ap (λ (x : ClientWrite). x.payload) b ∙ ap (λ (n : ℕ). payload.Txn (txn_of n next changes)) e)
 
 refusal_is : {V : Type 0} (here : Here V) (soft : Soft) (log : List Entry) (next : Option ℕ) (end : ℕ) (changes : List Change) → IsNode here soft log → length log ≡ end → next ≡ next_in (server_of here.ring.now here.me) here.gtids.now
     → asked_of here soft next end changes ≡ write_refusal here.ring.now here.me (durable_of here log) soft changes
@@ -236,31 +244,34 @@ refuses (Some log) here soft client changes end next c refusal (Ok plan) node wh
     let h : write_refusal here.ring.now here.me (durable_of here log) soft changes ≡ Some c = sym (refusal_is here soft log next end changes node whole from) ∙ (sym is ∙ some) in
     refused_by here.ring.now here.me (durable_of here log) soft client changes c h ∙ ap (λ (p : Plan). record { plan = p; soft = soft }) (sym made)
 
-pub writes : {V : Type 0} (told : Option (List Entry)) (here : Here V) (soft : Soft) (client : ℕ) (changes : List Change) (end : ℕ) (next : Option ℕ) (refusal : Option Cause) (pairs : List Pair) (peers : List Peer) (pending : List Pending) (server : ℕ) (txn : Txn) (it : Advanced)
+pub writes : {V : Type 0} (told : Option (List Entry)) (here : Here V) (soft new : Soft) (client : ℕ) (changes : List Change) (end : ℕ) (next : Option ℕ) (refusal : Option Cause) (leader : Leader) (server : ℕ) (w : ClientWrite) (it : Advanced) (plan : Plan)
     → IfSome told (IsNode here soft) → IfSome told (λ log. length log ≡ end) → next ≡ next_in (server_of here.ring.now here.me) here.gtids.now
-    → refusal ≡ asked_of here soft next end changes → refusal ≡ None → txn ≡ txn_of server next changes → server ≡ server_of here.ring.now here.me → pairs ≡ here.prepared.now → peers ≡ soft.peers → pending ≡ soft.pending
-    → IfSome told (λ log. it ≡ write_by here.ring.now here.me here.term log here.applied pairs soft.commit peers pending client txn end)
-    → IfSome told (λ log. write here.ring.now here.me (durable_of here log) soft client changes ≡ step_of soft it)
-writes None here soft client changes end next refusal pairs peers pending server txn it node whole from is none t e same same2 same3 made = tt
-writes (Some log) here soft client changes end next refusal pairs peers pending server txn it node whole from is none t e same same2 same3 made =
+    → refusal ≡ asked_of here soft next end changes → refusal ≡ None → w ≡ client_write server next client changes → server ≡ server_of here.ring.now here.me → LeadsHere here soft leader
+    → IfSome told (λ log. it ≡ write_by leader.engine.ring.now leader.engine.me leader.term log leader.engine.applied leader.engine.pairs.now leader.commit leader.peers.now leader.pending.now w.client w.txn end)
+    → plan ≡ it.plan → new ≡ record soft { commit = it.commit; pending = it.pending }
+    → IfSome told (λ log. write here.ring.now here.me (durable_of here log) soft client changes ≡ record { plan = plan; soft = new })
+writes None here soft new client changes end next refusal leader server w it plan node whole from is none t e leads made given settled = tt
+writes (Some log) here soft new client changes end next refusal leader server w it plan node whole from is none t e leads made given settled =
     let ring = here.ring.now in
     let me = here.me in
     let d : Durable = durable_of here log in
     let h : write_refusal ring me d soft changes ≡ None = sym (refusal_is here soft log next end changes node whole from) ∙ (sym is ∙ none) in
     let number = next_is ring me log here.gtids.now next node.gtids_are from in
-    let txn_is : txn ≡ write_txn ring me d changes = t ∙ ap₂ (λ (n : ℕ) (o : Option ℕ). txn_of n o changes) e number in
+    let client_is : w.client ≡ client = ap (λ (x : ClientWrite). x.client) t in
+    let txn_is : w.txn ≡ write_txn ring me d changes = ap (λ (x : ClientWrite). x.txn) t ∙ ap₂ (λ (n : ℕ) (o : Option ℕ). txn_of n o changes) e number in
     let t2 = write_txn ring me d changes in
     let at : suc (length log) ≡ end + 1 = omega arith in
-    let W : Txn → List Pair → List Peer → List Pending → Advanced = λ x ps xs ws. write_by ring me here.term log here.applied ps soft.commit xs ws client x end in
-    let made2 : it ≡ W t2 here.prepared.now soft.peers soft.pending =
-    made ∙ (ap₂ (λ (x : Txn) (ps : List Pair). W x ps peers pending) txn_is same ∙ ap₂ (W t2 here.prepared.now) same2 same3) in
+    let W : ℕ → Txn → Layout → ℕ → ℕ → ℕ → List Pair → ℕ → List Peer → List Pending → Advanced = λ k x r m n a ps c xs ws. write_by r m n log a ps c xs ws k x end in
+    let made2 : it ≡ W client t2 ring me here.term here.applied here.prepared.now soft.commit soft.peers soft.pending =
+    made ∙ (ap₂ (λ (k : ℕ) (x : Txn). W k x leader.engine.ring.now leader.engine.me leader.term leader.engine.applied leader.engine.pairs.now leader.commit leader.peers.now leader.pending.now) client_is txn_is
+    ∙ by_parts (W client t2) here soft leader leader.engine.pairs.now leads leads.pairs_are) in
     taken_by ring me d soft client changes h
     ∙ (written ring me d soft client t2 (record { term = here.term; position = suc (length log) })
     ∙ (ap (λ (p : ℕ). step_of soft (advanced_at ring me d soft client t2 (record { term = here.term; position = p }))) at
-    ∙ ap (step_of soft) (sym made2)))
+    ∙ (ap (step_of soft) (sym made2) ∙ settles soft new it plan given settled)))
 
 -- ---- what the call that adds the entry asks
-pub fits_view : (a b : Sight) (schema : Schema) (server end : ℕ) (next : Option ℕ) (S : ℕ) (txn : Txn) (changes : List Change) → b ≡ a → a.schema ≡ schema → txn ≡ txn_of server next changes → server ≡ S
-    → MayAdd schema end (payload.Txn (txn_of S next changes)) → payload_fits b.schema (payload.Txn txn) ≡ true
-fits_view a b schema server end next S txn changes same is t e may =
-    ap₂ (λ (x : Schema) (y : Txn). payload_fits x (payload.Txn y)) (ap (λ (s : Sight). s.schema) same ∙ is) (t ∙ ap (λ (n : ℕ). txn_of n next changes) e) ∙ may.fits
+pub fits_view : (a b : Sight) (schema : Schema) (server client end : ℕ) (next : Option ℕ) (S : ℕ) (w : ClientWrite) (changes : List Change) → b ≡ a → a.schema ≡ schema → w ≡ client_write server next client changes → server ≡ S
+    → MayAdd schema end (payload.Txn (txn_of S next changes)) → payload_fits b.schema (payload.Txn w.txn) ≡ true
+fits_view a b schema server client end next S w changes same is t e may =
+    ap₂ (λ (x : Schema) (y : Txn). payload_fits x (payload.Txn y)) (ap (λ (s : Sight). s.schema) same ∙ is) (ap (λ (x : ClientWrite). x.txn) t ∙ ap (λ (n : ℕ). txn_of n next changes) e) ∙ may.fits

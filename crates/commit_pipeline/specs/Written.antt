@@ -1,10 +1,11 @@
 -- The plan of a write, from the parts that the core is handed.
-use Rattle.std.specs.Prelude.{ℕ, ◌+◌, List, [], ◌∷◌, ◌++◌, Some, None}
+use Rattle.std.specs.Prelude.{ℕ, ◌+◌, List, [], ◌∷◌, ◌++◌, Option, Some, None}
 use Rattle.ring_types.specs.declared.entries.Opid.{Opid}
 use Rattle.ring_types.specs.declared.entries.Entry.{Entry}
 use Rattle.ring_types.specs.declared.entries.Pair.{Pair}
 use Rattle.ring_types.specs.declared.entries.Payload.{Payload}
 use Rattle.ring_types.specs.declared.entries.Payload.TheVariants as payload
+use Rattle.ring_types.specs.declared.values.Change.{Change}
 use Rattle.ring_types.specs.declared.values.Txn.{Txn}
 use Rattle.ring_types.specs.Rings.{Layout, region_of}
 use Rattle.ring_model.specs.declared.nodes.Peer.{Peer}
@@ -14,10 +15,16 @@ use Rattle.ring_model.specs.declared.effects.Cause.{Cause}
 use Rattle.ring_model.specs.declared.effects.Plan.{Plan}
 use Rattle.ring_model.specs.declared.effects.What.TheVariants as what
 use Rattle.commit_pipeline.specs.declared.advances.Advanced.{Advanced}
+use Rattle.commit_pipeline.specs.declared.writes.ClientWrite.{ClientWrite}
 use Rattle.commit_pipeline.specs.Advances.{advanced, pairs_after, part_after}
+use Rattle.commit_pipeline.specs.Refusals.{txn_of}
 
 abbrev pub refused_plan : ℕ → Cause → Plan
 refused_plan client c = record { actions = []; messages = []; says = record { client = client; what = what.Refused c } ∷ [] }
+
+-- a client's write of these changes
+abbrev pub client_write : ℕ → Option ℕ → ℕ → List Change → ClientWrite
+client_write server next client changes = record { client = client; txn = txn_of server next changes; payload = payload.Txn (txn_of server next changes) }
 
 -- the opid after a log of this length, and the entry there
 abbrev pub opid_after : ℕ → ℕ → Opid

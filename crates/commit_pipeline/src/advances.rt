@@ -6,8 +6,9 @@ ghost use Rattle.commit_pipeline.specs.Heres.{MayAdvance, durable_of};
 
 use crate::counts::commit_count;
 use crate::follows::follow;
-use crate::heres::{Engine, Here, Leader};
+use crate::heres::{Here, Leader};
 use crate::parts::{committeds, waiting};
+use crate::steps::idle;
 use edge_traits::LogView;
 use ring_model::{CoreFault, Pending, Plan, Soft};
 use ring_types::List;
@@ -20,6 +21,23 @@ pub struct Advanced {
     pub plan: Plan,
     pub commit: u64,
     pub pending: List<Pending>,
+}
+
+impl Advanced {
+    /// Gives the soft part its commit count and its pending writes, and the caller the plan.
+    pub fn settle(self, soft: &mut Soft) -> Plan
+        ensures plan { result ≡ self.plan }
+        ensures soft { soft.new ≡ record soft.old { commit = self.commit; pending = self.pending } }
+    {
+        let Advanced {
+            plan,
+            commit,
+            pending,
+        } = self;
+        soft.commit = commit;
+        soft.pending = pending;
+        plan
+    }
 }
 
 /// Ends a leader's step, without its soft part: the commit count rises, the engine follows, and the
@@ -83,35 +101,9 @@ pub fn advance<'a, V: LogView>(
         prepared,
         ..
     } = here;
-    let empty = Plan {
-        actions: List::new(alloc),
-        messages: List::new(alloc),
-        says: List::new(alloc),
-    };
-    let first = replace(plan, empty);
-    let engine = Engine {
-        ring,
-        me,
-        applied,
-        pairs: prepared.pairs().as_slice(),
-        upto: None,
-        made: None,
-    };
-    let leader = Leader {
-        engine,
-        term,
-        commit: soft.commit,
-        peers: soft.peers.as_slice(),
-        pending: soft.pending.as_slice(),
-    };
+    let first = replace(plan, idle(alloc));
+    let leader = Leader::new(ring, me, term, applied, prepared, soft);
     let advanced = advance_by(alloc, view, &leader, first)?;
-    let Advanced {
-        plan: more,
-        commit,
-        pending,
-    } = advanced;
-    *plan = more;
-    soft.commit = commit;
-    soft.pending = pending;
+    *plan = advanced.settle(soft);
     Ok(())
 }

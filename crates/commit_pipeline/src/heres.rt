@@ -1,6 +1,8 @@
+ghost use Rattle.commit_pipeline.specs.Heres.{IsLeaderOf};
+
 use gtid_set::GtidSet;
 use prepared_txns::Prepared;
-use ring_model::{Peer, Pending};
+use ring_model::{Peer, Pending, Soft};
 use ring_types::{NodeId, Opid, Pair, Ring};
 use row_engine::Tables;
 use vote_history::History;
@@ -44,4 +46,34 @@ pub struct Leader<'a> {
     pub commit: u64,
     pub peers: &'a [Peer],
     pub pending: &'a [Pending],
+}
+
+impl<'a> Leader<'a> {
+    /// The node as a leader, under a plan that rolls no pair back and prepares none.
+    pub fn new(
+        ring: &'a Ring,
+        me: NodeId,
+        term: u64,
+        applied: u64,
+        prepared: &'a Prepared,
+        soft: &'a Soft,
+    ) -> Leader<'a>
+        ensures { IsLeaderOf result ring.now me term applied prepared.now soft.now }
+    {
+        let engine = Engine {
+            ring,
+            me,
+            applied,
+            pairs: prepared.pairs().as_slice(),
+            upto: None,
+            made: None,
+        };
+        Leader {
+            engine,
+            term,
+            commit: soft.commit,
+            peers: soft.peers.as_slice(),
+            pending: soft.pending.as_slice(),
+        }
+    }
 }

@@ -18,6 +18,19 @@ use ring_types::{
 use row_engine::Tables;
 use std::alloc::Global;
 
+/// What a client asks of a leader's stores and log: the changes, and the payload that holds them.
+#[derive(Clone, Copy)]
+pub(crate) struct Asked<'a> {
+    pub schema: &'a Schema,
+    /// The number of the server's next transaction, if it has one.
+    pub next: Option<u64>,
+    /// How many entries the log has.
+    pub length: u64,
+    pub payload: &'a Payload,
+    pub prepared: &'a Prepared,
+    pub changes: &'a List<Change>,
+}
+
 /// The plan in which one refusal is said to a client, and nothing else happens.
 pub fn refused(alloc: Global, client: u32, cause: Cause) -> Result<Plan, CoreFault>
     ensures told { IfOk result (λ it. it ≡ refused_plan client cause) }
@@ -101,51 +114,38 @@ fn is_full(next: Option<u64>, length: u64) -> bool
     next.is_none() || TERM_END - 1 <= length
 }
 
-fn size_refusal(schema: &Schema, next: Option<u64>, length: u64, payload: &Payload) -> Option<Cause>
-    ensures { result ≡ own.size_cause schema.now next length payload.now }
+fn size_refusal(asked: &Asked<'_>) -> Option<Cause>
+    ensures { result ≡ own.size_cause asked.now.schema.now asked.now.next asked.now.length asked.now.payload.now }
 {
-    let bytes = group_size(schema, payload);
+    let bytes = group_size(asked.schema, asked.payload);
     if GROUP_BYTES < bytes {
         return Some(Cause::TooLarge { bytes });
     }
-    if is_full(next, length) {
+    if is_full(asked.next, asked.length) {
         return Some(Cause::Exhausted);
     }
     None
 }
 
-fn lock_refusal(
-    alloc: Global,
-    schema: &Schema,
-    next: Option<u64>,
-    length: u64,
-    payload: &Payload,
-    prepared: &Prepared,
-    changes: &List<Change>,
-) -> Result<Option<Cause>, Memory>
-    ensures { IfOk result (λ it. it ≡ own.lock_cause schema.now next length payload.now prepared.now changes.now) }
+fn lock_refusal(alloc: Global, asked: &Asked<'_>) -> Result<Option<Cause>, Memory>
+    ensures { IfOk result (λ it. it ≡ own.lock_cause asked.now.schema.now asked.now.next asked.now.length asked.now.payload.now asked.now.prepared.now asked.now.changes.now) }
 {
-    match lock_of(alloc, prepared, changes)? {
+    match lock_of(alloc, asked.prepared, asked.changes)? {
         Some(cause) => Ok(Some(cause)),
-        None => Ok(size_refusal(schema, next, length, payload)),
+        None => Ok(size_refusal(asked)),
     }
 }
 
 fn change_refusal(
     alloc: Global,
     tables: &Tables,
-    schema: &Schema,
-    next: Option<u64>,
-    length: u64,
-    payload: &Payload,
-    prepared: &Prepared,
-    changes: &List<Change>,
+    asked: &Asked<'_>,
 ) -> Result<Option<Cause>, Memory>
-    ensures { IfOk result (λ it. it ≡ own.change_cause tables.now schema.now next length payload.now prepared.now changes.now) }
+    ensures { IfOk result (λ it. it ≡ own.change_cause tables.now asked.now.schema.now asked.now.next asked.now.length asked.now.payload.now asked.now.prepared.now asked.now.changes.now) }
 {
-    match tables.check(changes) {
+    match tables.check(asked.changes) {
         Err(refusal) => Ok(Some(Cause::Invalid(refusal))),
-        Ok(()) => lock_refusal(alloc, schema, next, length, payload, prepared, changes),
+        Ok(()) => lock_refusal(alloc, asked),
     }
 }
 
@@ -154,14 +154,9 @@ pub(crate) fn write_refusal(
     alloc: Global,
     soft: &Soft,
     tables: Option<&Tables>,
-    schema: &Schema,
-    next: Option<u64>,
-    length: u64,
-    payload: &Payload,
-    prepared: &Prepared,
-    changes: &List<Change>,
+    asked: &Asked<'_>,
 ) -> Result<Option<Cause>, Memory>
-    ensures { IfOk result (λ it. it ≡ own.write_cause soft.now (option_copied tables.entry) schema.now next length payload.now prepared.now changes.now) }
+    ensures { IfOk result (λ it. it ≡ own.write_cause soft.now (option_copied tables.entry) asked.now.schema.now asked.now.next asked.now.length asked.now.payload.now asked.now.prepared.now asked.now.changes.now) }
 {
     if !is_leader(soft.role) {
         return Ok(Some(Cause::NotLeader));
@@ -175,9 +170,7 @@ pub(crate) fn write_refusal(
     if is_handing(soft.transfer) {
         return Ok(Some(Cause::Transferring));
     }
-    change_refusal(
-        alloc, tables, schema, next, length, payload, prepared, changes,
-    )
+    change_refusal(alloc, tables, asked)
 }
 
 /// Why a rotate is refused, if it is: the first cause that holds.

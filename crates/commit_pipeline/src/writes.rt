@@ -16,7 +16,7 @@ use crate::adds::add_entry;
 use crate::advances::Advanced;
 use crate::heres::{Engine, Here, Leader};
 use crate::reads::last;
-use crate::refusals::{next_of, refused, rotate_refusal, write_refusal};
+use crate::refusals::{Asked, next_of, refused, rotate_refusal, write_refusal};
 use crate::steps::Begun;
 use edge_traits::LogView;
 use ring_model::{Action, CoreFault, Pending, Plan, Say, Soft, What};
@@ -32,17 +32,32 @@ fn next_gtid(server: u128, next: Option<u64>) -> Gtid
     }
 }
 
-fn write_txn(
+/// A client's write: its transaction, and the payload of the entry that holds the same.
+#[derive(Drop)]
+struct ClientWrite {
+    client: u32,
+    txn: Txn,
+    payload: Payload,
+}
+
+fn write_of(
     alloc: Global,
     server: u128,
     next: Option<u64>,
+    client: u32,
     changes: &List<Change>,
-) -> Result<Txn, Memory>
-    ensures { IfOk result (λ it. it ≡ txn_of server next changes.now) }
+) -> Result<ClientWrite, Memory>
+    ensures { IfOk result (λ it. it ≡ own.client_write server next client changes.now) }
 {
-    Ok(Txn {
+    let txn = Txn {
         gtid: next_gtid(server, next),
         changes: changes.copy(alloc)?,
+    };
+    let payload = Payload::Txn(txn.copy(alloc)?);
+    Ok(ClientWrite {
+        client,
+        txn,
+        payload,
     })
 }
 
@@ -78,9 +93,7 @@ fn add_write<V: LogView>(
     view: &mut V,
     end: u64,
     leader: &Leader<'_>,
-    client: u32,
-    txn: Txn,
-    payload: Payload,
+    write: ClientWrite,
 ) -> Result<Advanced, CoreFault>
     requires stands { V.stands view.old }
     requires end { end ≡ (V.sees view.old).length }
@@ -88,14 +101,19 @@ fn add_write<V: LogView>(
     requires short { end + 1 < TERM_END }
     requires applied { leader.now.engine.applied ≤ leader.now.commit }
     requires commit { leader.now.commit ≤ end }
-    requires is { payload ≡ kind.Txn txn }
-    requires fits { payload_fits (V.sees view.old).schema (kind.Txn txn) ≡ true }
-    requires small { group_bytes (V.sees view.old).schema (kind.Txn txn) ≤ group_limit }
+    requires is { write.payload ≡ kind.Txn write.txn }
+    requires fits { payload_fits (V.sees view.old).schema (kind.Txn write.txn) ≡ true }
+    requires small { group_bytes (V.sees view.old).schema (kind.Txn write.txn) ≤ group_limit }
     requires led { IfSome (V.sees view.old).log (IsLedLog leader.now.term) }
-    ensures told { IfSome (V.sees view.old).log (λ log. IfOk result (λ it. it ≡ own.write_by leader.now.engine.ring.now leader.now.engine.me leader.now.term log leader.now.engine.applied leader.now.engine.pairs.now leader.now.commit leader.now.peers.now leader.now.pending.now client txn end)) }
+    ensures told { IfSome (V.sees view.old).log (λ log. IfOk result (λ it. it ≡ own.write_by leader.now.engine.ring.now leader.now.engine.me leader.now.term log leader.now.engine.applied leader.now.engine.pairs.now leader.now.commit leader.now.peers.now leader.now.pending.now write.client write.txn end)) }
     ensures keeps { Keeps V.sees V.behind V.stands V.faults view.old view.new }
     ensures failed { CoreFails (V.faults view.old) (V.faults view.new) result }
 {
+    let ClientWrite {
+        client,
+        txn,
+        payload,
+    } = write;
     let engine = &leader.engine;
     let opid = Opid {
         term: leader.term,
@@ -113,19 +131,14 @@ fn add_write<V: LogView>(
         payload,
     };
     let made = Engine {
-        ring: engine.ring,
-        me: engine.me,
-        applied: engine.applied,
-        pairs: engine.pairs,
         upto: None,
         made: Some(opid),
+        ..*engine
     };
     let leader = Leader {
         engine: made,
-        term: leader.term,
-        commit: leader.commit,
-        peers: leader.peers,
         pending: pending.as_slice(),
+        ..*leader
     };
     add_entry(alloc, view, end, &leader, entry, first)
 }
@@ -160,54 +173,27 @@ pub fn write<'a, V: LogView>(
     let end = last(view)?.position;
     let server = ring.server_of(me);
     let next = next_of(gtids, server);
-    let Ok(txn) = write_txn(alloc, server, next, changes) else {
+    let Ok(write) = write_of(alloc, server, next, client, changes) else {
         return Err(CoreFault::Memory);
     };
-    let Ok(copy) = txn.copy(alloc) else {
-        return Err(CoreFault::Memory);
-    };
-    let payload = Payload::Txn(copy);
-    let Ok(refusal) = write_refusal(
-        alloc,
-        soft,
-        tables,
-        ring.schema(),
+    let asked = Asked {
+        schema: ring.schema(),
         next,
-        end,
-        &payload,
+        length: end,
+        payload: &write.payload,
         prepared,
         changes,
-    ) else {
+    };
+    let Ok(refusal) = write_refusal(alloc, soft, tables, &asked) else {
         return Err(CoreFault::Memory);
     };
     match refusal {
         Some(cause) => return refused(alloc, client, cause),
         None => {}
     }
-    let engine = Engine {
-        ring,
-        me,
-        applied,
-        pairs: prepared.pairs().as_slice(),
-        upto: None,
-        made: None,
-    };
-    let leader = Leader {
-        engine,
-        term,
-        commit: soft.commit,
-        peers: soft.peers.as_slice(),
-        pending: soft.pending.as_slice(),
-    };
-    let advanced = add_write(alloc, view, end, &leader, client, txn, payload)?;
-    let Advanced {
-        plan,
-        commit,
-        pending,
-    } = advanced;
-    soft.commit = commit;
-    soft.pending = pending;
-    Ok(plan)
+    let leader = Leader::new(ring, me, term, applied, prepared, soft);
+    let advanced = add_write(alloc, view, end, &leader, write)?;
+    Ok(advanced.settle(soft))
 }
 
 /// The step of a rotate that is not refused: its entry added.
@@ -283,28 +269,7 @@ pub fn rotate<'a, V: LogView>(
         Some(cause) => return refused(alloc, client, cause),
         None => {}
     }
-    let engine = Engine {
-        ring,
-        me,
-        applied,
-        pairs: prepared.pairs().as_slice(),
-        upto: None,
-        made: None,
-    };
-    let leader = Leader {
-        engine,
-        term,
-        commit: soft.commit,
-        peers: soft.peers.as_slice(),
-        pending: soft.pending.as_slice(),
-    };
+    let leader = Leader::new(ring, me, term, applied, prepared, soft);
     let advanced = add_rotate(alloc, view, end, &leader, client)?;
-    let Advanced {
-        plan,
-        commit,
-        pending,
-    } = advanced;
-    soft.commit = commit;
-    soft.pending = pending;
-    Ok(plan)
+    Ok(advanced.settle(soft))
 }

@@ -21,8 +21,10 @@ use Rattle.ring_model.specs.declared.effects.Step.{Step}
 use Rattle.ring_model.specs.declared.messages.AppendReply.{AppendReply}
 use Rattle.commit_pipeline.specs.declared.advances.Advanced.{Advanced}
 use Rattle.commit_pipeline.specs.declared.heres.Here.{Here}
-use Rattle.commit_pipeline.specs.Advances.{advanced, part_after}
+use Rattle.commit_pipeline.specs.declared.heres.Leader.{Leader as Led}
+use Rattle.commit_pipeline.specs.Advances.{advanced, pairs_left, part_after}
 use Rattle.commit_pipeline.specs.Heres.{IsNode, durable_of}
+use Rattle.commit_pipeline.proofs.Leading.{LeadsHere, all_left, by_parts}
 use Rattle.replicate_core.specs.Replies as own
 
 -- ---- what a leader knows: no sum stops short on a lawful node
@@ -106,15 +108,17 @@ heard : (ring : Layout) (me : ℕ) (d : Durable) (s : Soft) (peers : List Peer)
 unfolding advance
 heard ring me d s peers = refl
 
-pub hears : {V : Type 0} (told : Option (List Entry)) (here : Here V) (s : Soft) (from end : ℕ) (reply : AppendReply) (pairs : List Pair)
-    (known peers slice : List Peer) (pending : List Pending) (empty : Plan) (hit : Bool) (it : Advanced) → nat_lt here.term reply.term ≡ false
+pub hears : {V : Type 0} (told : Option (List Entry)) (here : Here V) (s new : Soft) (from end : ℕ) (reply : AppendReply) (leader : Led)
+    (known peers slice : List Peer) (empty : Plan) (hit : Bool) (it : Advanced) (plan : Plan) → nat_lt here.term reply.term ≡ false
     → IfSome told (IsNode here s) → IfSome told (λ log. length log ≡ end) → end < TERM_END → hit ≡ own.counts here.term end s reply → hit ≡ true
-    → known ≡ s.peers → peers ≡ own.heard_among known from reply.ok reply.position → slice ≡ peers → pending ≡ s.pending → pairs ≡ here.prepared.now
+    → known ≡ s.peers → peers ≡ own.heard_among known from reply.ok reply.position → slice ≡ peers → LeadsHere here s leader
     → empty ≡ record { actions = []; messages = []; says = [] }
-    → IfSome told (λ log. it ≡ advanced here.ring.now here.me (part_after here.term log here.applied pairs) s.commit slice pending empty)
-    → IfSome told (λ log. spec.on_ack here.ring.now here.me (durable_of here log) s from reply ≡ hearing s peers it)
-hears None here s from end reply pairs known peers slice pending empty hit it h node whole short l k a b e f i j made = tt
-hears (Some log) here s from end reply pairs known peers slice pending empty hit it h node whole short l k a b e f i j made =
+    → IfSome told (λ log. it ≡ advanced leader.engine.ring.now leader.engine.me
+    (part_after leader.term log leader.engine.applied (pairs_left leader.engine)) leader.commit slice leader.pending.now empty)
+    → plan ≡ it.plan → new ≡ record s { peers = peers; commit = it.commit; pending = it.pending }
+    → IfSome told (λ log. spec.on_ack here.ring.now here.me (durable_of here log) s from reply ≡ record { plan = plan; soft = new })
+hears None here s new from end reply leader known peers slice empty hit it plan h node whole short l k a b e lead j made given settled = tt
+hears (Some log) here s new from end reply leader known peers slice empty hit it plan h node whole short l k a b e lead j made given settled =
     let ring = here.ring.now in
     let me = here.me in
     let d : Durable = durable_of here log in
@@ -126,14 +130,16 @@ hears (Some log) here s from end reply pairs known peers slice pending empty hit
     let same = heard-same (length log) s.peers from reply.ok reply.position size (node.lawful.peers_fit role) in
     let peers_are : peers ≡ spec.heard_among s.peers from reply.ok reply.position = b
     ∙ (ap (λ (xs : List Peer). own.heard_among xs from reply.ok reply.position) a ∙ same) in
-    let F : List Pair → List Peer → List Pending → Plan → Advanced =
-    λ ps xs ws p. advanced ring me (part_after here.term log here.applied ps) s.commit xs ws p in
-    let now : it ≡ F here.prepared.now peers s.pending (record { actions = []; messages = []; says = [] }) =
-    made ∙ (ap₂ (λ (ps : List Pair) (xs : List Peer). F ps xs pending empty) i e
-    ∙ ap₂ (λ (ws : List Pending) (p : Plan). F here.prepared.now peers ws p) f j) in
+    let F : Layout → ℕ → ℕ → ℕ → List Pair → ℕ → List Peer → List Pending → Advanced =
+    λ r m n at ps c xs ws. advanced r m (part_after n log at ps) c peers ws (record { actions = []; messages = []; says = [] }) in
+    let now : it ≡ F ring me here.term here.applied here.prepared.now s.commit s.peers s.pending =
+    made ∙ (ap₂ (λ (xs : List Peer) (p : Plan). advanced leader.engine.ring.now leader.engine.me
+    (part_after leader.term log leader.engine.applied (pairs_left leader.engine)) leader.commit xs leader.pending.now p) e j
+    ∙ by_parts F here s leader (pairs_left leader.engine) lead (all_left here s leader lead)) in
     by_tests ring me d s from reply false true h k2
     ∙ (ap (λ (xs : List Peer). advance ring me d (record s { peers = xs }) [] []) (sym peers_are)
-    ∙ (heard ring me d s peers ∙ ap (hearing s peers) (sym now)))
+    ∙ (heard ring me d s peers ∙ (ap (hearing s peers) (sym now)
+    ∙ ap₂ (λ (p : Plan) (x : Soft). record { plan = p; soft = x }) (sym given) (sym settled))))
 
 pub short_end : (end n : ℕ) → end ≡ n → n < TERM_END → end < TERM_END
 short_end end n at short = omega arith

@@ -30,6 +30,13 @@ pub(crate) struct Receiver<'a> {
     pub commit: u64,
 }
 
+/// How far the log stays as it is, and how far it is committed once a message's entries are taken in.
+#[derive(Clone, Copy)]
+struct Bounds {
+    kept: u64,
+    commit: u64,
+}
+
 /// The position of the message's last entry; that of its previous opid if it has none.
 pub(crate) fn last_matched(sent: &Append) -> u64
     requires few { length sent.now.entries ≤ BATCH_ENTRIES }
@@ -163,54 +170,52 @@ fn follow_after<'x, V: LogView>(
     alloc: Global,
     view: &'x mut V,
     receiver: &Receiver<'_>,
-    kept: u64,
+    bounds: Bounds,
     added: &'x [Entry],
-    commit: u64,
     actions: List<Action>,
 ) -> Result<List<Action>, CoreFault>
     requires stands { V.stands view.old }
-    requires may_plan { MayPlan (V.sees view.old) kept added.now }
-    requires placed { IfSome (V.sees view.old).log (λ log. IsPlaced (after kept added.now log)) }
-    requires applied_inside { receiver.now.applied ≤ kept + length added.now }
-    requires commit_inside { commit ≤ kept + length added.now }
-    ensures told { IfSome (V.sees view.old).log (λ log. IfOk result (λ it. it ≡ actions ++ own.followed receiver.now (after kept added.now log) (own.cut_at receiver.now.end kept) commit)) }
+    requires may_plan { MayPlan (V.sees view.old) bounds.kept added.now }
+    requires placed { IfSome (V.sees view.old).log (λ log. IsPlaced (after bounds.kept added.now log)) }
+    requires applied_inside { receiver.now.applied ≤ bounds.kept + length added.now }
+    requires commit_inside { bounds.commit ≤ bounds.kept + length added.now }
+    ensures told { IfSome (V.sees view.old).log (λ log. IfOk result (λ it. it ≡ actions ++ own.followed receiver.now (after bounds.kept added.now log) (own.cut_at receiver.now.end bounds.kept) bounds.commit)) }
     ensures keeps { Keeps V.sees V.behind V.stands V.faults view.old view.new }
     ensures failed { CoreFails (V.faults view.old) (V.faults view.new) result }
 {
-    let upto = cut_at(receiver.end, kept);
+    let upto = cut_at(receiver.end, bounds.kept);
     let mut planned = Planned {
         view,
         alloc,
-        kept,
+        kept: bounds.kept,
         added,
     };
-    follow_from(&mut planned, receiver, upto, commit, actions)
+    follow_from(&mut planned, receiver, upto, bounds.commit, actions)
 }
 
-/// The actions, and after them those that take in the entries which the log does not hold after
-/// `kept`, and by which the engine follows.
+/// The actions, and after them those that take in the entries which the log does not hold, and by
+/// which the engine follows.
 fn accept_rest<V: LogView>(
     alloc: Global,
     view: &mut V,
     receiver: &Receiver<'_>,
-    kept: u64,
+    bounds: Bounds,
     added: &[Entry],
-    commit: u64,
     first: List<Action>,
 ) -> Result<List<Action>, CoreFault>
     requires stands { V.stands view.old }
-    requires may_plan { MayPlan (V.sees view.old) kept added.now }
-    requires placed { IfSome (V.sees view.old).log (λ log. IsPlaced (after kept added.now log)) }
-    requires applied_inside { receiver.now.applied ≤ kept + length added.now }
-    requires commit_inside { commit ≤ kept + length added.now }
-    ensures told { IfSome (V.sees view.old).log (λ log. IfOk result (λ it. it ≡ own.added_by receiver.now log kept added.now commit first)) }
+    requires may_plan { MayPlan (V.sees view.old) bounds.kept added.now }
+    requires placed { IfSome (V.sees view.old).log (λ log. IsPlaced (after bounds.kept added.now log)) }
+    requires applied_inside { receiver.now.applied ≤ bounds.kept + length added.now }
+    requires commit_inside { bounds.commit ≤ bounds.kept + length added.now }
+    ensures told { IfSome (V.sees view.old).log (λ log. IfOk result (λ it. it ≡ own.added_by receiver.now log bounds.kept added.now bounds.commit first)) }
     ensures keeps { Keeps V.sees V.behind V.stands V.faults view.old view.new }
     ensures failed { CoreFails (V.faults view.old) (V.faults view.new) result }
 {
-    let Ok(actions) = take_in(alloc, receiver, kept, added, first) else {
+    let Ok(actions) = take_in(alloc, receiver, bounds.kept, added, first) else {
         return Err(CoreFault::Memory);
     };
-    follow_after(alloc, view, receiver, kept, added, commit, actions)
+    follow_after(alloc, view, receiver, bounds, added, actions)
 }
 
 /// The actions, and after them those that take the message's entries in and by which the engine
@@ -243,5 +248,6 @@ pub(crate) fn accept<V: LogView>(
         return follow_from(view, receiver, None, commit, first);
     }
     let kept = sent.prev.position + count;
-    accept_rest(alloc, view, receiver, kept, added, commit, first)
+    let bounds = Bounds { kept, commit };
+    accept_rest(alloc, view, receiver, bounds, added, first)
 }

@@ -246,7 +246,6 @@ pub fn on_append<'a, V: LogView>(
         commit: soft.commit,
     };
     let matched = match_append(alloc, view, &receiver, sent, begun)?;
-    let Matched { plan, commit } = matched;
-    settle(alloc, soft, term, sent, commit);
-    Ok(plan)
+    settle(alloc, soft, term, sent, matched.commit);
+    Ok(matched.plan)
 }

@@ -8,9 +8,7 @@ ghost use Rattle.commit_pipeline.specs.Faults.{CoreFails};
 ghost use Rattle.commit_pipeline.specs.Heres.{StandsForNode, durable_of};
 ghost use Rattle.replicate_core.specs.Replies as own;
 
-use commit_pipeline::{
-    Advanced, Engine, Here, Leader, adopted, advance_by, demote, idle, is_leader, last,
-};
+use commit_pipeline::{Engine, Here, Leader, adopted, advance_by, demote, idle, is_leader, last};
 use edge_traits::LogView;
 use ring_model::{AppendReply, CoreFault, Peer, Plan, Soft};
 use ring_types::{List, Memory, NodeId};
@@ -113,29 +111,12 @@ pub fn on_ack<'a, V: LogView>(
     let Ok(peers) = heard_among(alloc, known, from, reply.ok, reply.position) else {
         return Err(CoreFault::Memory);
     };
-    let engine = Engine {
-        ring,
-        me,
-        applied,
-        pairs: prepared.pairs().as_slice(),
-        upto: None,
-        made: None,
-    };
+    let before = Leader::new(ring, me, term, applied, prepared, soft);
     let leader = Leader {
-        engine,
-        term,
-        commit: soft.commit,
         peers: peers.as_slice(),
-        pending: soft.pending.as_slice(),
+        ..before
     };
     let advanced = advance_by(alloc, view, &leader, idle(alloc))?;
-    let Advanced {
-        plan,
-        commit,
-        pending,
-    } = advanced;
     soft.peers = peers;
-    soft.commit = commit;
-    soft.pending = pending;
-    Ok(plan)
+    Ok(advanced.settle(soft))
 }

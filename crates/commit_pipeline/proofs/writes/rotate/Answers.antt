@@ -31,7 +31,10 @@ returns-clause-told g c =
     let here = c.args.here in
     let told = (v.sees here.view.now).log in
     let end = c.in_ok-end.field-0.position in
-    rotates_on told here c.args.soft.now c.args.client end c.next_of-next.result c.rotate_refusal.result c.as_slice.result.now c.as_slice-2.result.now c.as_slice-3.result.now c.in_ok-advanced.advanced
+    let leader = c.new-leader.result in
+    rotates_on told here c.args.soft.now c.settle.new.soft c.args.client end c.next_of-next.result c.rotate_refusal.result leader c.in_ok-advanced.advanced c.settle.result
     c.requires.node.told (whole_at told (v.sees here.view.now).length end c.in_ok-end.ensures.position c.requires.node.whole)
-    (c.next_of-next.ensures ∙ ap (λ n. next_in n here.gtids.now) c.server_of-server.ensures) c.rotate_refusal.ensures c.in-None.is (c.as_slice.ensures ∙ c.pairs.ensures) c.as_slice-2.ensures c.as_slice-3.ensures
-    (same_told (v.sees c.last.new.view) (v.sees here.view.now) (λ (log : List Entry). c.in_ok-advanced.advanced ≡ rotate_by here.ring.now here.me here.term log here.applied c.as_slice.result.now c.args.soft.now.commit c.as_slice-2.result.now c.as_slice-3.result.now c.args.client end) c.in_ok-end.ensures.keeps.same c.in_ok-advanced.ensures.told)
+    (c.next_of-next.ensures ∙ ap (λ n. next_in n here.gtids.now) c.server_of-server.ensures) c.rotate_refusal.ensures c.in-None.is
+    c.new-leader.ensures
+    (same_told (v.sees c.last.new.view) (v.sees here.view.now) (λ (log : List Entry). c.in_ok-advanced.advanced ≡ rotate_by leader.engine.ring.now leader.engine.me leader.term log leader.engine.applied leader.engine.pairs.now leader.commit leader.peers.now leader.pending.now c.args.client end) c.in_ok-end.ensures.keeps.same c.in_ok-advanced.ensures.told)
+    c.settle.ensures.plan c.settle.ensures.soft

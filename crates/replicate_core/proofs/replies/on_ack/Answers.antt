@@ -1,6 +1,6 @@
-use Rattle.std.proofs.Common.{◌≡◌, List, ◌∙◌}
+use Rattle.std.proofs.Common.{◌≡◌, List}
 use Rattle.ring_types.specs.declared.entries.Entry.{Entry}
-use Rattle.commit_pipeline.specs.Advances.{advanced, part_after}
+use Rattle.commit_pipeline.specs.Advances.{advanced, pairs_left, part_after}
 use Rattle.commit_pipeline.proofs.Counting.{same_told}
 use Rattle.commit_pipeline.proofs.Adding.{whole_at}
 use Rattle.replicate_core.proofs.Replying.{adopts, ignores, hears, short_end}
@@ -34,15 +34,15 @@ returns-clause-told g c =
     let reply = c.args.reply.now in
     let told = (v.sees here.view.now).log in
     let end = c.in_ok-end.field-0.position in
-    let pairs = c.as_slice.result.now in
-    let peers = c.as_slice-2.result.now in
-    let pending = c.as_slice-3.result.now in
+    let leader = c.new-before.result in
     let it = c.in_ok-advanced.advanced in
-    hears told here s c.args.from end reply pairs c.as_slice-known.result.now c.in-Ok-heard_among.peers peers pending c.idle-2.result c.counts.result it
+    hears told here s c.settle.new.soft c.args.from end reply leader c.as_slice-known.result.now c.in-Ok-heard_among.peers c.as_slice.result.now c.idle-2.result c.counts.result it c.settle.result
     (is_not_less here.term reply.term c.if-term-reply.false) c.requires.node.told
     (whole_at told (v.sees here.view.now).length end c.in_ok-end.ensures.position c.requires.node.whole)
     (short_end end (v.sees here.view.now).length c.in_ok-end.ensures.position c.requires.node.short) c.counts.ensures c.if-not-counts.false
-    c.as_slice-known.ensures c.in-Ok-heard_among.ensures c.as_slice-2.ensures c.as_slice-3.ensures (c.as_slice.ensures ∙ c.pairs.ensures) c.idle-2.ensures
-    (same_told (v.sees c.last.new.view) (v.sees here.view.now) (λ (log : List Entry). it ≡ advanced here.ring.now here.me
-    (part_after here.term log here.applied pairs) s.commit peers pending c.idle-2.result)
+    c.as_slice-known.ensures c.in-Ok-heard_among.ensures c.as_slice.ensures c.new-before.ensures
+    c.idle-2.ensures
+    (same_told (v.sees c.last.new.view) (v.sees here.view.now) (λ (log : List Entry). it ≡ advanced leader.engine.ring.now leader.engine.me
+    (part_after leader.term log leader.engine.applied (pairs_left leader.engine)) leader.commit c.as_slice.result.now leader.pending.now c.idle-2.result)
     c.in_ok-end.ensures.keeps.same c.in_ok-advanced.ensures.told)
+    c.settle.ensures.plan c.settle.ensures.soft
