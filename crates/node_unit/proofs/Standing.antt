@@ -18,10 +18,13 @@ use Rattle.row_engine.specs.Filled.{Filled}
 use Rattle.node_store.specs.Stores.{StoreState, engine_for, tables_of}
 use Rattle.commit_pipeline.specs.Heres.{IsNode, StandsForNode, durable_of}
 use Rattle.commit_pipeline.specs.declared.heres.Here.{Here}
+use Rattle.node_unit.specs.Plans.{sight_of}
+use Rattle.node_unit.specs.Units.{IsFitShown}
 use Rattle.ring_lawful.specs.EachStep.{IsFitNode, IsFitPart}
 use Rattle.ring_model.specs.Nodes.{IsLawful}
 use Rattle.ring_model.specs.declared.nodes.Durable.{Durable}
 use Rattle.ring_model.specs.declared.nodes.Soft.{Soft}
+use Rattle.ring_model.specs.declared.worlds.Shown.{Shown}
 
 -- ---- the entries of a fit log
 first_true : (a b : Bool) → (a && b) ≡ true → a ≡ true
@@ -51,6 +54,10 @@ are_entries ring me d (sound, fits) = λ position e at. record {
   group_fits = small ring.schema e (all_at_position (λ (x : Entry). nat_le (group_bytes ring.schema x.payload) group_limit) d.log position e sound.groups_fit at);
 }
 
+-- the same of a unit's node
+pub shown_entries : (ring : Layout) (s : Shown) → IsFitShown ring s → AreEntries ring.schema s.durable.log
+shown_entries ring s fit = are_entries ring s.node s.durable fit.part
+
 -- ---- what is handed in
 abbrev part : ℕ → List Vote → List Entry → ℕ → List Pair → Durable
 part term votes log applied prepared = record { term = term; votes = votes; log = log; applied = applied; prepared = prepared }
@@ -65,9 +72,6 @@ pub record IsHanded {V : Type 0} (ring : Layout) (me : ℕ) (store : StoreState)
   pub applied_is : here.applied ≡ store.durable.applied
   pub pairs_are : here.prepared.now ≡ store.durable.prepared
   pub file_is : here.file ≡ suc (rotates store.durable.log)
-
-abbrev pub sight_of : Layout → Durable → Sight
-sight_of ring d = record { log = Some d.log; length = length d.log; home = ring.home; schema = ring.schema }
 
 part_is : {V : Type 0} (ring : Layout) (me : ℕ) (store : StoreState) (here : Here V) → IsHanded ring me store here → durable_of here store.durable.log ≡ store.durable
 part_is ring me store here h =
@@ -128,3 +132,8 @@ stands_for stands sees ring me store s here of' fit h sight view =
       whole = rw (same_log, same_length) refl;
       told = rw same_log (told ring me store s here of' fit h);
     }
+
+-- what is said of the log that the view tells is said of the store's part
+pub told_as : {V : Type 0} (P : Durable → Type 0) (ring : Layout) (me : ℕ) (store : StoreState) (here : Here V) (told : Option (List Entry)) → IsHanded ring me store here
+    → told ≡ Some store.durable.log → IfSome told (λ log. P (durable_of here log)) → P store.durable
+told_as P ring me store here told h is x = subst P (part_is ring me store here h) (rw is at x)

@@ -1,6 +1,6 @@
 -- a rule that is never torn; and the Append that is
 use Rattle.std.proofs.Common.{◌≡◌, ℕ, Bool, true, false, List, [], ◌∷◌, nat_lt, Option, Some, None, Result, Ok, Err, if◌then◌else◌, ◌||◌, refl}
-use Rattle.std.specs.Prelude.{IfOk, IfSome}
+use Rattle.std.specs.Prelude.{IfOk, IfSome, OnErr}
 use Rattle.ring_types.specs.declared.entries.Entry.{Entry}
 use Rattle.ring_types.specs.Rings.{Layout}
 use Rattle.commit_pipeline.specs.Faults.{CoreFails}
@@ -17,7 +17,7 @@ use Rattle.ring_model.specs.declared.messages.Append.{Append}
 use Rattle.ring_model.specs.declared.nodes.Durable.{Durable}
 use Rattle.ring_model.specs.declared.nodes.Soft.{Soft}
 use Rattle.replicate_core.specs.Appends.{AppendAnswers, AppendFails}
-use Rattle.node_unit.specs.Plans.{StepFails, TornRests}
+use Rattle.node_unit.specs.Plans.{StepFails, TornRests, TornStays}
 
 pub fails : (before now : ℕ) (r : Result Plan CoreFault) → CoreFails before now r → StepFails before now r
 fails before now (Ok plan) h = tt
@@ -43,6 +43,18 @@ rests_always before now (Ok plan) st s h = tt
 rests_always before now (Err fault.Disk) st s h = tt
 rests_always before now (Err (fault.Torn position kept sent)) st s h = absurd h
 rests_always before now (Err fault.Memory) st s h = tt
+
+pub stays_always : (before now : ℕ) (r : Result Plan CoreFault) (old new : Soft) → CoreFails before now r → TornStays old new r
+stays_always before now (Ok plan) old new h = tt
+stays_always before now (Err fault.Disk) old new h = tt
+stays_always before now (Err (fault.Torn position kept sent)) old new h = absurd h
+stays_always before now (Err fault.Memory) old new h = tt
+
+pub torn_stays : (r : Result Plan CoreFault) (old new : Soft) → OnErr r (new ≡ old) → TornStays old new r
+torn_stays (Ok plan) old new h = tt
+torn_stays (Err fault.Disk) old new h = tt
+torn_stays (Err (fault.Torn position kept sent)) old new h = h
+torn_stays (Err fault.Memory) old new h = tt
 
 at_tear : (ring : Layout) (me : ℕ) (d : Durable) (s : Soft) (sent : Append) (t : Tear) (o : Option Tear) → o ≡ Some t
     → (elim o [ Some u ↦ idle s | None ↦ follow_append ring me d s sent ]) ≡ idle s

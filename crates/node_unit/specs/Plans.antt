@@ -34,6 +34,11 @@ abbrev pub TornRests : Step → Soft → Result Plan CoreFault → Type 0
 TornRests st s (Err (fault.Torn position kept sent)) = st ≡ idle s
 TornRests st s _ = Unit {0}
 
+-- and the soft part stays
+abbrev pub TornStays : Soft → Soft → Result Plan CoreFault → Type 0
+TornStays old new (Err (fault.Torn position kept sent)) = new ≡ old
+TornStays old new _ = Unit {0}
+
 abbrev pub plan_of : Step → Plan
 plan_of st = st.plan
 

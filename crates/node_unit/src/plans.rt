@@ -2,7 +2,7 @@ ghost use Rattle.std.specs.Prelude.{◌≡◌, ◌&&◌, [], false, IfOk, OnErr}
 ghost use Rattle.commit_pipeline.specs.Faults.{CoreFails};
 ghost use Rattle.edge_traits.specs.Views.{Keeps};
 ghost use Rattle.node_store.specs.Stores.{engine_for};
-ghost use Rattle.node_unit.specs.Plans.{IsRead, StepFails, TornRests, is_answer_input};
+ghost use Rattle.node_unit.specs.Plans.{IsRead, StepFails, TornRests, TornStays, is_answer_input};
 ghost use Rattle.ring_lawful.specs.EachStep.{IsFitNode, IsFitPart, IsGood};
 ghost use Rattle.ring_model.specs.Dispatch as dispatch;
 ghost use Rattle.ring_model.specs.Replication as replication;
@@ -181,7 +181,7 @@ fn heard<V: LogView>(
 
 /// The plan of a running node on an input, with its log read through a view. After a fault other than
 /// of an answer to entries, what the node has in memory is as it was.
-#[tactic(auto, using(crate::proofs::Torn::fails, crate::proofs::Torn::rests_always))]
+#[tactic(auto, using(crate::proofs::Torn::fails, crate::proofs::Torn::rests_always, crate::proofs::Torn::stays_always, crate::proofs::Torn::torn_stays))]
 pub(crate) fn planned<V: LogView>(
     alloc: Global,
     kept: &Kept<'_>,
@@ -195,6 +195,7 @@ pub(crate) fn planned<V: LogView>(
     requires good { IsGood kept.now.ring.now input.now }
     ensures told { IfOk result (λ it. dispatch.step kept.now.ring.now kept.now.me kept.now.store.now.durable soft.old input.now ≡ record { plan = it; soft = soft.new }) }
     ensures torn { TornRests (dispatch.step kept.now.ring.now kept.now.me kept.now.store.now.durable soft.old input.now) soft.old result }
+    ensures rests { TornStays soft.old soft.new result }
     ensures stays { is_answer_input input.now ≡ false → OnErr result (soft.new ≡ soft.old) }
     ensures keeps { Keeps V.sees V.behind V.stands V.faults view.old view.new }
     ensures failed { StepFails (V.faults view.old) (V.faults view.new) result }

@@ -3,8 +3,8 @@ use Rattle.node_unit.proofs.Standing.{stands_for}
 use Rattle.node_unit.proofs.plans.plan_over.Goals as goal
 
 pub plan-requires-clause-node : goal.plan-requires-clause-node
-plan-requires-clause-node c =
-    stands_for _ _ c.args.ring.now c.args.me c.args.store.now c.args.soft.now _ c.requires.of c.requires.fit
+plan-requires-clause-node g c =
+    stands_for _ _ c.args.kept.now.ring.now c.args.kept.now.me c.args.kept.now.store.now c.args.soft.now _ c.requires.of c.requires.fit
     (record {
       ring_is = refl;
       me_is = refl;
@@ -16,4 +16,4 @@ plan-requires-clause-node c =
       pairs_are = c.prepared.ensures;
       file_is = c.file.ensures;
     })
-    c.view-view.ensures.sees c.view-view.ensures.stands
+    c.requires.read.sight (λ _. c.requires.read.stand)
