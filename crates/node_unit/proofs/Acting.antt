@@ -1,5 +1,5 @@
 -- the actions of a plan, one after the other: each is possible where its turn comes, and what is left of the list is what was given
-use Rattle.std.proofs.Common.{◌≡◌, ℕ, zero, suc, ◌+◌, ◌<◌, ◌≤◌, List, [], ◌∷◌, length, take, drop, Option, None, Some, option_map, refl, sym, ap, subst, ◌∙◌, arith}
+use Rattle.std.proofs.Common.{◌≡◌, ℕ, zero, suc, ◌≤◌, List, [], ◌∷◌, length, take, drop, Option, None, Some, option_map, refl, sym, ap, subst, ◌∙◌, arith}
 use Rattle.std.specs.Prelude.{IfSome, OnOk, Result, Ok, Err, slice_get, slice_set}
 use Rattle.ring_types.specs.Rings.{Layout}
 use Rattle.ring_model.specs.Actions.{ArePossible, IsPossible, all_done, done}

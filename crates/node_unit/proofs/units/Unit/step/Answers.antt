@@ -1,5 +1,4 @@
-use Rattle.std.proofs.Common.{◌≡◌, ℕ, ap, subst, sym, ◌∙◌}
-use Rattle.std.specs.Prelude.{OnOk, Result, Ok, Err}
+use Rattle.std.proofs.Common.{ap, subst, sym, ◌∙◌}
 use Rattle.node_store.specs.Stores.{engine_for}
 use Rattle.ring_model.specs.declared.worlds.Shown.{Shown}
 use Rattle.node_unit.specs.Units.{IsFitShown}
