@@ -5,7 +5,7 @@ ghost use Rattle.node_unit.specs.Plans.{is_answer_input};
 ghost use Rattle.node_unit.specs.Units.{IsOf, IsFitShown};
 ghost use Rattle.ring_lawful.specs.EachStep.{IsGood};
 
-use super::fixtures::{lone, none, one, same, three};
+use super::fixtures::{lone, one, same, three};
 use super::units::{
     CLIENT, asks, grants, holds, insert, leader_alone, leader_of_three, relays, sends, started,
     took,
@@ -17,7 +17,6 @@ use ring_types::{Entry, List, Ring};
 use std::process::Abort;
 
 /// The plan of an input, made over a view of the unit's log whose call of this number fails.
-#[tactic(auto, using(node_unit::proofs::Standing::shown_entries))]
 fn planned(
     rt: &(impl AllocGlobal + Abort),
     ring: &Ring,
@@ -47,7 +46,7 @@ fn planned(
 fn log_of(rt: &(impl AllocGlobal + Abort), unit: &Unit) -> List<Entry>
     ensures { result ≡ unit.now.shown.durable.log }
 {
-    let mut log = none(rt);
+    let mut log = List::new(rt.alloc());
     log.extend_copies(rt.alloc(), unit.log())
         .expect(rt, "memory");
     log
@@ -66,8 +65,8 @@ fn plan_at_last(
     requires other { is_answer_input input.now ≡ false }
 {
     let mut unit = unit;
-    let log = log_of(rt, &unit);
     for failed in 0..50 {
+        let log = log_of(rt, &unit);
         match planned(rt, ring, &mut unit, &log, input, failed + 1) {
             Ok(plan) => {
                 assert!(rt; failed > 0);
