@@ -1,5 +1,5 @@
-ghost use Rattle.std.specs.Prelude.{◌≡◌, ◌==◌, ◌&&◌, ◌++◌, ◌∷◌, [], IfOk, OnOk, map};
-ghost use Rattle.std.specs.List.{list_any};
+ghost use Rattle.std.specs.Prelude.{◌≡◌, ℕ, ◌==◌, ◌&&◌, ◌++◌, ◌∷◌, [], true, nat_le, max, IfOk, OnOk, map};
+ghost use Rattle.std.specs.List.{list_all, list_any};
 ghost use Rattle.ring_types.specs.Gtids as spec;
 ghost use Rattle.ring_types.specs.declared.values.Gtid.{Gtid};
 
@@ -110,12 +110,35 @@ fn numbers_of(alloc: Global, server: u128, gtids: &[Gtid]) -> Result<List<u64>, 
     Ok(numbers)
 }
 
+/// A number in its place in an ascending list of numbers that are not above a bound. One above the
+/// bound goes to the end at once.
+fn put_number(
+    alloc: Global,
+    number: u64,
+    bound: u64,
+    numbers: List<u64>,
+) -> Result<List<u64>, Memory>
+    requires { list_all (λ (x : ℕ). nat_le x bound) numbers ≡ true }
+    ensures put { IfOk result (λ it. it ≡ spec.with_number number numbers) }
+    ensures below { IfOk result (λ it. list_all (λ (x : ℕ). nat_le x (max bound number)) it ≡ true) }
+{
+    if number <= bound {
+        return with_number(alloc, number, numbers.as_slice());
+    }
+    let mut numbers = numbers;
+    numbers.push(number)?;
+    Ok(numbers)
+}
+
+/// The numbers in ascending order, each once. Those of a log mostly rise, and then it is a walk.
 fn ascending_numbers(alloc: Global, numbers: &[u64]) -> Result<List<u64>, Memory>
     ensures { IfOk result (λ it. it ≡ spec.ascending numbers.now) }
 {
     let mut so_far = List::new(alloc);
+    let mut greatest = 0u64;
     for number in numbers {
-        so_far = with_number(alloc, *number, so_far.as_slice())?;
+        so_far = put_number(alloc, *number, greatest, so_far)?;
+        greatest = greatest.max(*number);
     }
     Ok(so_far)
 }

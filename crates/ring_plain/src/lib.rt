@@ -6,12 +6,10 @@
 
 mod fitting;
 mod gtid_numbers;
-mod lists;
 mod sizes;
 
 pub use fitting::{
     changes_fit, fits_table, has_this_key, is_null, payload_fits, place_in, same_value, table_name,
 };
 pub use gtid_numbers::{gtids, has, next_number};
-pub use lists::{first_items, joined};
 pub use sizes::{group_size, rows_event_size, table_map_size};

@@ -1,0 +1,5 @@
+pub mod Points
+pub mod Stands
+pub mod Added
+pub mod Held
+pub mod Laws
