@@ -5,3 +5,4 @@ pub mod Standing
 pub mod GoingOn
 pub mod LogSets
 pub mod Putting
+pub mod WholeFiles

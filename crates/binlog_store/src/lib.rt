@@ -10,6 +10,7 @@
 //! longer log are those of the log, continued.
 #![tactic(auto)]
 
+mod files;
 mod held;
 mod laws;
 mod log_sets;
