@@ -6,3 +6,4 @@ pub mod GoingOn
 pub mod LogSets
 pub mod Putting
 pub mod WholeFiles
+pub mod Ends

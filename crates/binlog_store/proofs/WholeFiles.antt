@@ -1,13 +1,11 @@
 -- Files that are written anew, one after the other.
-use Rattle.std.proofs.Common.{◌≡◌, ◌≢◌, ℕ, zero, suc, ◌+◌, ◌<◌, ◌≤◌, ◌⊎◌, Bool, true, false, List, [], ◌∷◌, ◌++◌, length, take, get_or, refl, sym, ap, subst, ◌∙◌, arith}
-use Rattle.std.specs.Prelude.{nat_le}
+use Rattle.std.proofs.Common.{◌≡◌, ◌≢◌, ℕ, zero, suc, ◌+◌, ◌<◌, ◌≤◌, ◌⊎◌, true, List, [], ◌∷◌, ◌++◌, length, take, get_or, refl, sym, ap, subst, ◌∙◌, arith}
 use Rattle.std.proofs.lemmas.Bool.Decides.{nat_tests}
 use Rattle.std.proofs.lemmas.Grind.{take_at_read}
-use Rattle.edge_traits.specs.FileStates.{Contents, FileState, Files, MayLeave, settled}
+use Rattle.edge_traits.specs.FileStates.{Contents, Files, settled}
 use Rattle.edge_traits.specs.DiskCalls.{Elsewhere}
 use Rattle.edge_traits.specs.Moments.{AtEachMoment}
-use Rattle.edge_traits.specs.Works.{Group, Telling, Works, WorksOn, telling}
-use Rattle.edge_traits.specs.declared.disks.FileId.{FileId}
+use Rattle.edge_traits.specs.Works.{WorksOn, telling}
 use Rattle.edge_traits.specs.declared.disks.FileId.TheVariants as file
 use Rattle.edge_traits.proofs.Working.{works_at, works_then, works_weaker}
 use Rattle.binlog_store.specs.Files.{AreSettled, IsAny, LeavesAny, from_file}

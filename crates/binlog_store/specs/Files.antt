@@ -1,5 +1,5 @@
 -- Binary log files on a disk. Only private contracts cite this.
-use Rattle.std.specs.Prelude.{◌≡◌, ℕ, suc, Bool, false, List, [], ◌∷◌, nat_le}
+use Rattle.std.specs.Prelude.{◌≡◌, ℕ, suc, false, List, [], ◌∷◌, nat_le}
 use Rattle.edge_traits.specs.FileStates.{Contents, Files, settled}
 use Rattle.edge_traits.specs.Works.{Group}
 use Rattle.edge_traits.specs.declared.disks.FileId.TheVariants as file

@@ -1,5 +1,5 @@
 ghost use Rattle.binlog_store.specs.Added.{FilesGoOn};
-ghost use Rattle.binlog_store.specs.Laws.{OneLogAtMost};
+ghost use Rattle.binlog_store.specs.Laws.{NextBeginsAtTheEnd, OneLogAtMost};
 
 /// A content of a disk stands for one log at most.
 pub fn law_one_log()
@@ -10,4 +10,9 @@ pub fn law_one_log()
 /// entries add.
 pub fn law_files_go_on()
     ensures { FilesGoOn }
+{}
+
+/// The entry behind a log begins in the last of its files, behind the bytes of it.
+pub fn law_end()
+    ensures { NextBeginsAtTheEnd }
 {}

@@ -7,7 +7,7 @@
 //! file; a truncation switches first and cuts afterwards.
 //!
 //! [`law_one_log`]: one content of a disk stands for at most one log. [`law_files_go_on`]: the files of a
-//! longer log are those of the log, continued.
+//! longer log are those of the log, continued. [`law_end`]: the next entry begins where they end.
 #![tactic(auto)]
 
 mod files;
@@ -16,5 +16,5 @@ mod laws;
 mod log_sets;
 mod points;
 
-pub use laws::{law_files_go_on, law_one_log};
+pub use laws::{law_end, law_files_go_on, law_one_log};
 pub use points::LogPoint;

@@ -1,5 +1,5 @@
 use Rattle.std.proofs.Common.{◌∙◌}
-use Rattle.edge_traits.proofs.Moments.{after, call, eased}
+use Rattle.edge_traits.proofs.Moments.{after, call}
 use Rattle.binlog_store.proofs.files.write_file.Goals as goal
 
 pub returns-in_err-cut-clause-crash : goal.returns-in_err-cut-clause-crash
