@@ -7,3 +7,4 @@ pub mod LogSets
 pub mod Putting
 pub mod WholeFiles
 pub mod Ends
+pub mod BehindTheEnd
