@@ -1,0 +1,17 @@
+-- What holds of every content of a disk.
+use Rattle.std.specs.Prelude.{◌≡◌, ◌%◌, ◌^◌, List, length}
+use Rattle.ring_types.specs.declared.entries.Entry.{Entry}
+use Rattle.ring_types.specs.declared.schemas.Schema.{Schema}
+use Rattle.edge_traits.specs.FileStates.{Contents}
+use Rattle.entry_group.specs.Files.{files}
+use Rattle.binlog_store.specs.Added.{end_of}
+use Rattle.binlog_store.specs.Stands.{LogStands, last_length}
+
+abbrev pub OneLogAtMost : Type 0
+OneLogAtMost = (schema : Schema) (c : Contents) (a b : List Entry) → LogStands schema a c → LogStands schema b c → a ≡ b
+
+-- the entry behind a log begins in the last of its files, behind the bytes of it; an offset has 64 bits
+abbrev pub NextBeginsAtTheEnd : Type 0
+NextBeginsAtTheEnd =
+    (schema : Schema) (log : List Entry)
+    → ((end_of schema log).file ≡ length (files schema log)) × ((end_of schema log).at % 2 ^ 64 ≡ last_length (files schema log) % 2 ^ 64)

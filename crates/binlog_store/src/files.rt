@@ -1,0 +1,86 @@
+//! What is written to the binary log files of a disk: bytes behind the end of one, and whole files.
+ghost use Rattle.std.specs.Prelude.{◌≡◌, ◌+◌, ◌≤◌, ◌++◌, true, OnOk, length};
+ghost use Rattle.ring_types.specs.declared.limits.TheConstants.{LAST_FILE};
+ghost use Rattle.edge_traits.specs.DiskCalls.{DiskFails};
+ghost use Rattle.edge_traits.specs.FileStates.{settled};
+ghost use Rattle.edge_traits.specs.Moments.{AtEachMoment};
+ghost use Rattle.edge_traits.specs.Works.{WorksOn};
+ghost use Rattle.edge_traits.specs.declared.disks.FileId.TheVariants as id;
+ghost use Rattle.binlog_store.specs.Files.{AreAdded, AreSettled, Begins, EndsAt, IsAny, LeavesAny, LeavesFront, from_file};
+
+use edge_traits::{Disk, DiskFault, FileId, put};
+use ring_types::List;
+
+/// Writes bytes behind the end of a file of which the others stand, and syncs it. At each moment of it a
+/// crash leaves the others.
+fn extend_file<D: Disk>(disk: &mut D, number: u32, at: u64, bytes: &[u8]) -> Result<(), DiskFault>
+    requires { D.tells disk.old ≡ true → EndsAt at (D.files disk.old (id.Binlog number)) }
+    ensures here { D.tells disk.old ≡ true → OnOk result (D.files disk.new (id.Binlog number) ≡ settled ((D.files disk.old (id.Binlog number)).bytes ++ bytes.now)) }
+    ensures crash { D.tells disk.old ≡ true → AtEachMoment D.files D.moment D.left_since (id.Binlog number) disk.old disk.new (Begins at (D.files disk.old (id.Binlog number)).bytes) }
+    ensures story { D.story disk.new ≡ D.story disk.old }
+    ensures tells { D.tells disk.new ≡ D.tells disk.old }
+    ensures later { D.faults disk.old ≤ D.faults disk.new }
+    ensures failed { DiskFails (D.faults disk.old) (D.faults disk.new) result }
+{
+    put(disk, FileId::Binlog(number), at, bytes)
+}
+
+/// Writes a file anew: what it had is cut off, and the bytes are written and synced.
+fn write_file<D: Disk>(disk: &mut D, number: u32, bytes: &[u8]) -> Result<(), DiskFault>
+    ensures here { D.tells disk.old ≡ true → OnOk result (D.files disk.new (id.Binlog number) ≡ settled bytes.now) }
+    ensures crash { D.tells disk.old ≡ true → AtEachMoment D.files D.moment D.left_since (id.Binlog number) disk.old disk.new IsAny }
+    ensures story { D.story disk.new ≡ D.story disk.old }
+    ensures tells { D.tells disk.new ≡ D.tells disk.old }
+    ensures later { D.faults disk.old ≤ D.faults disk.new }
+    ensures failed { DiskFails (D.faults disk.old) (D.faults disk.new) result }
+{
+    let file = FileId::Binlog(number);
+    disk.cut(file, 0)?;
+    put(disk, file, 0, bytes)
+}
+
+/// Writes files anew, of this number and those that follow. At each moment of it a crash may leave
+/// anything of them, and leaves of every other file what it might have left before.
+pub(crate) fn write_files<D: Disk>(
+    disk: &mut D,
+    first: u32,
+    files: &[List<u8>],
+) -> Result<(), DiskFault>
+    requires { first + length files.now ≤ LAST_FILE + 1 }
+    ensures here { D.tells disk.old ≡ true → OnOk result (AreSettled (D.files disk.new) first files.now) }
+    ensures crash { D.tells disk.old ≡ true → WorksOn (from_file first) D.files D.moment D.left_since disk.old disk.new LeavesAny }
+    ensures story { D.story disk.new ≡ D.story disk.old }
+    ensures tells { D.tells disk.new ≡ D.tells disk.old }
+    ensures later { D.faults disk.old ≤ D.faults disk.new }
+    ensures failed { DiskFails (D.faults disk.old) (D.faults disk.new) result }
+{
+    for (i, bytes) in files.iter().enumerate() {
+        write_file(disk, first + i as u32, bytes.as_slice())?;
+    }
+    Ok(())
+}
+
+/// Writes what entries add to the files of a log: bytes behind the end of its last file, and the files
+/// that follow it, anew. At each moment of it a crash leaves the bytes before that end, and of the files
+/// before the last what it might have left of them.
+pub(crate) fn write_added<D: Disk>(
+    disk: &mut D,
+    number: u32,
+    at: u64,
+    added: &[List<u8>],
+) -> Result<(), DiskFault>
+    requires few { number + length added.now ≤ LAST_FILE + 1 }
+    requires ends { D.tells disk.old ≡ true → EndsAt at (D.files disk.old (id.Binlog number)) }
+    ensures here { D.tells disk.old ≡ true → OnOk result (AreAdded (D.files disk.new) number (D.files disk.old (id.Binlog number)).bytes added.now) }
+    ensures crash { D.tells disk.old ≡ true → WorksOn (from_file number) D.files D.moment D.left_since disk.old disk.new (LeavesFront number at (D.files disk.old (id.Binlog number)).bytes) }
+    ensures story { D.story disk.new ≡ D.story disk.old }
+    ensures tells { D.tells disk.new ≡ D.tells disk.old }
+    ensures later { D.faults disk.old ≤ D.faults disk.new }
+    ensures failed { DiskFails (D.faults disk.old) (D.faults disk.new) result }
+{
+    let [first, others @ ..] = added else {
+        return Ok(());
+    };
+    extend_file(disk, number, at, first.as_slice())?;
+    write_files(disk, number + 1, others)
+}

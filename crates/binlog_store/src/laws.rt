@@ -1,0 +1,18 @@
+ghost use Rattle.binlog_store.specs.Added.{FilesGoOn};
+ghost use Rattle.binlog_store.specs.Laws.{NextBeginsAtTheEnd, OneLogAtMost};
+
+/// A content of a disk stands for one log at most.
+pub fn law_one_log()
+    ensures { OneLogAtMost }
+{}
+
+/// The files of a longer log are those of the log, and the last of them goes on with what the further
+/// entries add.
+pub fn law_files_go_on()
+    ensures { FilesGoOn }
+{}
+
+/// The entry behind a log begins in the last of its files, behind the bytes of it.
+pub fn law_end()
+    ensures { NextBeginsAtTheEnd }
+{}

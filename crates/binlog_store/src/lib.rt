@@ -1,0 +1,20 @@
+//! A node's log on its disk: binary log files, and a control file that says where the log ends.
+//!
+//! The files are those that `entry_group` makes of a log: each a head and the groups of its entries. The
+//! control file `log.ctl` has the length of the log, the number of its last file, where the log ends in
+//! that file, and the greatest number of a file ever used. What stands behind that end, or in files above,
+//! is no part of the log. So an append writes its bytes there, syncs them, and then switches the control
+//! file; a truncation switches first and cuts afterwards.
+//!
+//! [`law_one_log`]: one content of a disk stands for at most one log. [`law_files_go_on`]: the files of a
+//! longer log are those of the log, continued. [`law_end`]: the next entry begins where they end.
+#![tactic(auto)]
+
+mod files;
+mod held;
+mod laws;
+mod log_sets;
+mod points;
+
+pub use laws::{law_end, law_files_go_on, law_one_log};
+pub use points::LogPoint;

@@ -1,0 +1,52 @@
+//! Where a log ends, as its control file says it.
+ghost use Rattle.std.specs.Prelude.{◌≡◌, ◌++◌, IfOk, OnOk};
+ghost use Rattle.event_frame.specs.Forms.{body_of};
+ghost use Rattle.event_frame.specs.Reading.{Gives};
+ghost use Rattle.event_frame.specs.declared.field_readers.FieldFault.TheVariants as fault;
+ghost use Rattle.binlog_store.specs.Points.{point_bytes, point_form};
+
+use event_frame::{FieldFault, ended, u32_at, u64_at};
+use ring_types::{List, Memory};
+use std::alloc::Global;
+
+/// Where a log ends on its disk: 24 bytes of `log.ctl`, each number with its lowest byte first.
+#[derive(Clone, Copy, Debug, PartialEq, Eq)]
+pub struct LogPoint {
+    /// How many entries the log has.
+    pub count: u64,
+    /// The number of its last file, counted from 1.
+    pub file: u32,
+    /// Where the log ends in that file.
+    pub end: u64,
+    /// The greatest number of a file that was ever begun.
+    pub highest: u32,
+}
+
+/// The bytes of a point.
+pub(crate) fn bytes_of(alloc: Global, point: LogPoint) -> Result<Vec<u8>, Memory>
+    ensures { IfOk result (λ it. it.items ≡ point_bytes point) }
+{
+    let mut out = Vec::new(alloc);
+    out.extend_from_slice(&point.count.to_le_bytes())?;
+    out.extend_from_slice(&point.file.to_le_bytes())?;
+    out.extend_from_slice(&point.end.to_le_bytes())?;
+    out.extend_from_slice(&point.highest.to_le_bytes())?;
+    Ok(out)
+}
+
+/// The point that has these bytes: there is one if they are 24.
+pub(crate) fn point_of(bytes: &[u8]) -> Result<LogPoint, FieldFault>
+    ensures { Gives (λ p. p) result (body_of fault.Cut point_form bytes.now) }
+{
+    let (count, rest) = u64_at(bytes)?;
+    let (file, rest) = u32_at(rest)?;
+    let (end, rest) = u64_at(rest)?;
+    let (highest, rest) = u32_at(rest)?;
+    ended(rest)?;
+    Ok(LogPoint {
+        count,
+        file,
+        end,
+        highest,
+    })
+}
