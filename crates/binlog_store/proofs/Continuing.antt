@@ -23,7 +23,8 @@ onto_continued text f [] more = sym (onto_twice text f more)
 onto_continued text f (g ∷ written) more = refl
 
 -- ---- what entries add is one file at least
-placed_some : (p : Payload) (text : List ℕ) (before : List Entry) (f : List ℕ) (rest : List (List ℕ)) → (g : List ℕ) × (more : List (List ℕ)) × (placed p text before (f ∷ rest) ≡ g ∷ more)
+placed_some : (p : Payload) (text : List ℕ) (before : List Entry) (f : List ℕ) (rest : List (List ℕ))
+    → (g : List ℕ) × (more : List (List ℕ)) × (placed p text before (f ∷ rest) ≡ g ∷ more)
 placed_some payload.NoOp text before f rest = (text ++ f, rest, refl)
 placed_some payload.Rotate text before f rest = (text, (head_after before ++ f) ∷ rest, refl)
 placed_some (payload.Txn t) text before f rest = (text ++ f, rest, refl)

@@ -21,7 +21,8 @@ use Rattle.entry_group.proofs.Sizes.{set_size}
 abbrev pub Lengthens : Entry → List ServerSet → List ServerSet → Type 0
 Lengthens e old new = (log : List Entry) → old ≡ gtids log → AreInRange (gtids_in (log ++ e ∷ [])) → new ≡ gtids (log ++ e ∷ [])
 
-pub put_some : (old new : List ServerSet) (e : Entry) (t : Txn) → e.payload ≡ payload.Txn t → IsCanonical new → HasAlso old t.gtid.server t.gtid.number new → Lengthens e old new
+pub put_some : (old new : List ServerSet) (e : Entry) (t : Txn) → e.payload ≡ payload.Txn t → IsCanonical new
+    → HasAlso old t.gtid.server t.gtid.number new → Lengthens e old new
 put_some old new e t is canonical also log of range =
     let has_it : gtid_of e ≡ Some t.gtid = rw is refl in
     grows_with_log log e t.gtid new has_it range canonical (subst (λ (set : List ServerSet). HasAlso set t.gtid.server t.gtid.number new) of also)

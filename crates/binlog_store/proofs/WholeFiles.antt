@@ -14,12 +14,14 @@ use Rattle.binlog_store.specs.Files.{AreSettled, IsAny, LeavesAny, from_file}
 numbers_differ : (m n : ℕ) → m < n → file.Binlog m ≢ file.Binlog n
 numbers_differ m n less same = let e : m ≡ n = cc in omega (arith, less, e)
 
-settled_still : (old new : Files) (n k : ℕ) (files : List (List ℕ)) → Elsewhere (file.Binlog k) old new → n + length files ≤ k → AreSettled old n files → AreSettled new n files
+settled_still : (old new : Files) (n k : ℕ) (files : List (List ℕ)) → Elsewhere (file.Binlog k) old new → n + length files ≤ k → AreSettled old n files
+    → AreSettled new n files
 settled_still old new n k [] else below h = tt
 settled_still old new n k (bytes ∷ files) else below h =
     (else (file.Binlog n) (numbers_differ n k (omega arith)) ∙ h.0, settled_still old new (suc n) k files else (omega (arith, below)) h.1)
 
-settled_more : (now : Files) (n : ℕ) (files : List (List ℕ)) (bytes : List ℕ) (k : ℕ) → k ≡ n + length files → AreSettled now n files → now (file.Binlog k) ≡ settled bytes → AreSettled now n (files ++ bytes ∷ [])
+settled_more : (now : Files) (n : ℕ) (files : List (List ℕ)) (bytes : List ℕ) (k : ℕ) → k ≡ n + length files → AreSettled now n files
+    → now (file.Binlog k) ≡ settled bytes → AreSettled now n (files ++ bytes ∷ [])
 settled_more now n [] bytes k is h at = let e : k ≡ n = omega (arith, is) in (subst (λ (z : ℕ). now (file.Binlog z) ≡ settled bytes) e at, tt)
 settled_more now n (x ∷ files) bytes k is h at = (h.0, settled_more now (suc n) files bytes k (omega (arith, is)) h.1 at)
 

@@ -1,15 +1,22 @@
 -- What more entries make of the files of a log: the last file goes on, and others follow it.
-use Rattle.std.specs.Prelude.{◌≡◌, ℕ, List, [], ◌∷◌, ◌++◌}
+use Rattle.std.specs.Prelude.{◌≡◌, ℕ, ◌+◌, List, [], ◌∷◌, ◌++◌, length}
 use Rattle.ring_types.specs.declared.entries.Entry.{Entry}
 use Rattle.ring_types.specs.declared.entries.Place.{Place}
 use Rattle.ring_types.specs.declared.schemas.Schema.{Schema}
 use Rattle.entry_group.specs.Files.{files, files_from, first_place, onto, place_behind}
+use Rattle.binlog_store.specs.Stands.{last_length}
 
 -- the last of these files goes on with the first of the others, and the rest of them follow
 abbrev pub continued : List (List ℕ) → List (List ℕ) → List (List ℕ)
 continued [] more = more
 continued (f ∷ []) more = onto f more
 continued (f ∷ (g ∷ written)) more = f ∷ continued (g ∷ written) more
+
+-- where the last of these files ends, the first of which goes on from this offset
+abbrev pub reach : ℕ → List (List ℕ) → ℕ
+reach at [] = at
+reach at (f ∷ []) = at + length f
+reach at (f ∷ (g ∷ more)) = last_length (g ∷ more)
 
 -- where the entry behind these begins
 abbrev pub place_from : Schema → Place → List Entry → List Entry → Place

@@ -1,6 +1,9 @@
 pub mod Points
 pub mod Stands
+pub mod Groups
 pub mod Added
 pub mod Held
 pub mod Files
+pub mod Mounted
+pub mod Faults
 pub mod Laws

@@ -1,8 +1,8 @@
 //! What is written to the binary log files of a disk: bytes behind the end of one, and whole files.
-ghost use Rattle.std.specs.Prelude.{◌≡◌, ◌+◌, ◌≤◌, ◌++◌, true, OnOk, length};
+ghost use Rattle.std.specs.Prelude.{◌≡◌, ◌+◌, ◌≤◌, ◌++◌, true, OnOk, length, take};
 ghost use Rattle.ring_types.specs.declared.limits.TheConstants.{LAST_FILE};
 ghost use Rattle.edge_traits.specs.DiskCalls.{DiskFails};
-ghost use Rattle.edge_traits.specs.FileStates.{settled};
+ghost use Rattle.edge_traits.specs.FileStates.{Firm, settled, shortened};
 ghost use Rattle.edge_traits.specs.Moments.{AtEachMoment};
 ghost use Rattle.edge_traits.specs.Works.{WorksOn};
 ghost use Rattle.edge_traits.specs.declared.disks.FileId.TheVariants as id;
@@ -83,4 +83,42 @@ pub(crate) fn write_added<D: Disk>(
     };
     extend_file(disk, number, at, first.as_slice())?;
     write_files(disk, number + 1, others)
+}
+
+/// Cuts files of these numbers to nothing. At each moment of it a crash may leave anything of them.
+fn empty_files<D: Disk>(disk: &mut D, first: u32, last: u32) -> Result<(), DiskFault>
+    requires { last ≤ LAST_FILE }
+    ensures crash { D.tells disk.old ≡ true → WorksOn (from_file first) D.files D.moment D.left_since disk.old disk.new LeavesAny }
+    ensures story { D.story disk.new ≡ D.story disk.old }
+    ensures tells { D.tells disk.new ≡ D.tells disk.old }
+    ensures later { D.faults disk.old ≤ D.faults disk.new }
+    ensures failed { DiskFails (D.faults disk.old) (D.faults disk.new) result }
+{
+    for number in first..last + 1 {
+        disk.cut(FileId::Binlog(number), 0)?;
+    }
+    Ok(())
+}
+
+/// Cuts off what stands behind the end of a log: the rest of its last file, and the files above it up to
+/// the last one ever begun. At each moment of it a crash leaves the bytes before that end, and of the
+/// files before the last what it might have left of them.
+pub(crate) fn cut_behind<D: Disk>(
+    disk: &mut D,
+    number: u32,
+    at: u64,
+    last: u32,
+) -> Result<(), DiskFault>
+    requires few { number ≤ last }
+    requires last { last ≤ LAST_FILE }
+    requires firm { D.tells disk.old ≡ true → Firm at (D.files disk.old (id.Binlog number)) }
+    ensures here { D.tells disk.old ≡ true → OnOk result (D.files disk.new (id.Binlog number) ≡ shortened at (D.files disk.old (id.Binlog number))) }
+    ensures crash { D.tells disk.old ≡ true → WorksOn (from_file number) D.files D.moment D.left_since disk.old disk.new (LeavesFront number at (take at (D.files disk.old (id.Binlog number)).bytes)) }
+    ensures story { D.story disk.new ≡ D.story disk.old }
+    ensures tells { D.tells disk.new ≡ D.tells disk.old }
+    ensures later { D.faults disk.old ≤ D.faults disk.new }
+    ensures failed { DiskFails (D.faults disk.old) (D.faults disk.new) result }
+{
+    disk.cut(FileId::Binlog(number), at)?;
+    empty_files(disk, number + 1, last)
 }

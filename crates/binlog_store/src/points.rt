@@ -1,5 +1,5 @@
 //! Where a log ends, as its control file says it.
-ghost use Rattle.std.specs.Prelude.{◌≡◌, ◌++◌, IfOk, OnOk};
+ghost use Rattle.std.specs.Prelude.{◌≡◌, ◌^◌, ◌<◌, ◌++◌, IfOk, OnOk};
 ghost use Rattle.event_frame.specs.Forms.{body_of};
 ghost use Rattle.event_frame.specs.Reading.{Gives};
 ghost use Rattle.event_frame.specs.declared.field_readers.FieldFault.TheVariants as fault;
@@ -20,6 +20,21 @@ pub struct LogPoint {
     pub end: u64,
     /// The greatest number of a file that was ever begun.
     pub highest: u32,
+}
+
+impl LogPoint {
+    /// A point of these numbers.
+    pub(crate) fn new(count: u64, file: u32, end: u64, highest: u32) -> LogPoint
+        ensures is { result ≡ record { count = count; file = file; end = end; highest = highest } }
+        ensures fits { (count < 2 ^ 64) × (end < 2 ^ 64) }
+    {
+        LogPoint {
+            count,
+            file,
+            end,
+            highest,
+        }
+    }
 }
 
 /// The bytes of a point.

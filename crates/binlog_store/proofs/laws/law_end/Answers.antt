@@ -1,4 +1,4 @@
-use Rattle.binlog_store.proofs.Ends.{next_begins_at_the_end}
+use Rattle.binlog_store.proofs.NextPlaces.{next_begins_at_the_end}
 use Rattle.binlog_store.proofs.laws.law_end.Goals as goal
 
 pub returns : goal.returns

@@ -1,5 +1,5 @@
 -- The next entry of a log begins where its files end: in the last of them, behind its bytes.
-use Rattle.std.proofs.Common.{◌≡◌, ℕ, suc, ◌+◌, ◌%◌, ◌^◌, List, [], ◌∷◌, ◌++◌, length, refl, sym, ap, ◌∙◌, arith}
+use Rattle.std.proofs.Common.{◌≡◌, ℕ, suc, ◌+◌, ◌%◌, ◌^◌, List, [], ◌∷◌, ◌++◌, length, refl, sym, ap, ap₂, ◌∙◌, arith}
 use Rattle.std.proofs.lemmas.List.{length-append}
 use Rattle.ring_types.specs.declared.entries.Entry.{Entry}
 use Rattle.ring_types.specs.declared.entries.Payload.{Payload}
@@ -8,16 +8,10 @@ use Rattle.ring_types.specs.declared.entries.Place.{Place}
 use Rattle.ring_types.specs.declared.schemas.Schema.{Schema}
 use Rattle.entry_group.specs.Files.{files, files_from, first_place, head_after, onto, place_behind, placed}
 use Rattle.entry_group.specs.Groups.{further, group}
-use Rattle.binlog_store.specs.Added.{end_of, place_from}
+use Rattle.binlog_store.specs.Added.{added, continued, end_of, place_from, reach}
 use Rattle.binlog_store.specs.Stands.{last_length}
 use Rattle.binlog_store.specs.Laws.{NextBeginsAtTheEnd}
-use Rattle.binlog_store.proofs.Continuing.{some_file}
-
--- where the last of some files ends, the first of which goes on from this offset
-abbrev reach : ℕ → List (List ℕ) → ℕ
-reach at [] = at
-reach at (f ∷ []) = at + length f
-reach at (f ∷ (g ∷ more)) = last_length (g ∷ more)
+use Rattle.binlog_store.proofs.Continuing.{files_go_on, some_file}
 
 onto_reach : (at : ℕ) (text f : List ℕ) (rest : List (List ℕ)) → reach at (onto text (f ∷ rest)) ≡ reach (at + length text) (f ∷ rest)
 onto_reach at text f [] = omega (arith, length-append text f)
@@ -42,13 +36,15 @@ record Ending (p next end : Place) (made rest : List (List ℕ)) : Type 0 where
 length_onto : (text f : List ℕ) (rest : List (List ℕ)) → length (onto text (f ∷ rest)) ≡ length (f ∷ rest)
 length_onto text f rest = refl
 
-same_file : (p next end : Place) (text f : List ℕ) (rest : List (List ℕ)) → next.file ≡ p.file → next.at ≡ (p.at + length text) % 2 ^ 64 → Ending p next end (onto text (f ∷ rest)) (f ∷ rest)
+same_file : (p next end : Place) (text f : List ℕ) (rest : List (List ℕ)) → next.file ≡ p.file → next.at ≡ (p.at + length text) % 2 ^ 64
+    → Ending p next end (onto text (f ∷ rest)) (f ∷ rest)
 same_file p next end text f rest here at = record {
   file = λ h. omega (arith, h, here);
   at = λ h. h ∙ (ap (λ (a : ℕ). reach a (f ∷ rest) % 2 ^ 64) at ∙ (wraps_reach (p.at + length text) f rest ∙ ap (λ (n : ℕ). n % 2 ^ 64) (sym (onto_reach p.at text f rest))));
 }
 
-next_file : (p next end : Place) (text head f : List ℕ) (rest : List (List ℕ)) → next.file ≡ p.file + 1 → next.at ≡ length head → Ending p next end (text ∷ onto head (f ∷ rest)) (f ∷ rest)
+next_file : (p next end : Place) (text head f : List ℕ) (rest : List (List ℕ)) → next.file ≡ p.file + 1 → next.at ≡ length head
+    → Ending p next end (text ∷ onto head (f ∷ rest)) (f ∷ rest)
 next_file p next end text head f [] here at = record {
   file = λ h. omega (arith, h, here);
   at = λ h. h ∙ (ap (λ (a : ℕ). reach a (f ∷ []) % 2 ^ 64) at ∙ ap (λ (n : ℕ). n % 2 ^ 64) (sym (onto_last head f [])));
@@ -107,3 +103,32 @@ next_begins_at_the_end schema log =
           ∙ (ap (λ (n : ℕ). n % 2 ^ 64) (sym (onto_last (head_after []) some.0 some.1))
           ∙ ap (λ (z : List (List ℕ)). last_length (onto (head_after []) z) % 2 ^ 64) (sym some.2))),
     )
+
+-- ---- where more entries end
+last_continued : (f g : List ℕ) (written more : List (List ℕ))
+    → last_length (continued (f ∷ written) (g ∷ more)) ≡ reach (last_length (f ∷ written)) (g ∷ more)
+last_continued f g [] [] = length-append f g
+last_continued f g [] (x ∷ more) = refl
+last_continued f g (y ∷ []) more = last_continued y g [] more
+last_continued f g (y ∷ (z ∷ written)) more = last_continued y g (z ∷ written) more
+
+pub some_files : (schema : Schema) (log : List Entry) → (f : List ℕ) × (rest : List (List ℕ)) × (files schema log ≡ f ∷ rest)
+unfolding files
+some_files schema log = let some = some_file schema first_place [] log in (head_after [] ++ some.0, some.1, ap (onto (head_after [])) some.2)
+
+pub last_reached : (schema : Schema) (log more : List Entry)
+    → last_length (files schema (log ++ more)) ≡ reach (last_length (files schema log)) (added schema log more)
+last_reached schema log more =
+    let old = some_files schema log in
+    let new = some_file schema (end_of schema log) log more in
+    ap last_length (files_go_on schema log more ∙ ap₂ continued old.2 new.2)
+    ∙ (last_continued old.0 new.0 old.1 new.1
+    ∙ sym (ap₂ (λ (w z : List (List ℕ)). reach (last_length w) z) old.2 new.2))
+
+-- one entry more
+pub end_grows : (schema : Schema) (log : List Entry) (e : Entry) (p : Place) (at : ℕ) → p ≡ end_of schema log → p.at ≡ last_length (files schema log)
+    → at ≡ reach p.at (files_from schema p log (e ∷ [])) → at ≡ last_length (files schema (log ++ e ∷ []))
+end_grows schema log e p at is here next =
+    next
+    ∙ (ap (λ (n : ℕ). reach n (files_from schema p log (e ∷ []))) here
+    ∙ (ap (λ (q : Place). reach (last_length (files schema log)) (files_from schema q log (e ∷ []))) is ∙ sym (last_reached schema log (e ∷ []))))

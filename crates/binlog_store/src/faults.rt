@@ -1,0 +1,37 @@
+ghost use Rattle.std.specs.Prelude.{◌≡◌};
+ghost use Rattle.binlog_store.specs.Faults.{fault_of};
+ghost use Rattle.binlog_store.specs.declared.faults.StoreFault.TheVariants as fault;
+
+use edge_traits::DiskFault;
+use std::alloc::{AllocError, AllocFailed};
+use thiserror::Error;
+
+/// Why a call on a store was not done.
+#[derive(Clone, Copy, Debug, PartialEq, Eq, Error)]
+pub enum StoreFault {
+    /// The disk failed.
+    #[error("the disk failed")]
+    Disk,
+    /// Memory was wanting, here or at the disk, or a file would have more than 2^64 - 1 bytes.
+    #[error("out of memory")]
+    Memory,
+}
+
+impl From<DiskFault> for StoreFault {
+    ghost from_gives = { λ d f. f ≡ fault_of d };
+
+    fn from(fault: DiskFault) -> Self {
+        match fault {
+            DiskFault::Failed => StoreFault::Disk,
+            DiskFault::Memory => StoreFault::Memory,
+        }
+    }
+}
+
+impl From<AllocError> for StoreFault {
+    ghost from_gives = { λ _ f. f ≡ fault.Memory };
+
+    fn from(_: AllocError) -> Self {
+        StoreFault::Memory
+    }
+}
