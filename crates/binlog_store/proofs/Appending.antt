@@ -26,7 +26,7 @@ use Rattle.binlog_store.proofs.Continuing.{files_go_on, some_file}
 use Rattle.binlog_store.proofs.Counts.{count_added, count_files}
 use Rattle.binlog_store.proofs.NextPlaces.{next_begins_at_the_end, some_files}
 use Rattle.binlog_store.proofs.Phases.{below, held_holds, switch_phase, write_phase, write_then_switch}
-use Rattle.binlog_store.proofs.Reading.{begins_left, held_ends, held_more, held_reads, reads_shorter}
+use Rattle.binlog_store.proofs.HeldFiles.{begins_left, held_ends, held_more, held_reads, reads_shorter}
 
 -- ---- what is kept of a log says where it ends
 pub file_is : (schema : Schema) (held : HeldLog) → IsHeldLog schema held → held.end.place.file ≡ length (files schema held.entries)

@@ -11,7 +11,7 @@ use Rattle.binlog_store.specs.Added.{continued, reach}
 use Rattle.binlog_store.specs.Held.{IsBehind}
 
 -- the last of some files goes on
-continued_last : (ended : List (List ℕ)) (current f : List ℕ) (more : List (List ℕ))
+pub continued_last : (ended : List (List ℕ)) (current f : List ℕ) (more : List (List ℕ))
     → continued (ended ++ current ∷ []) (f ∷ more) ≡ ended ++ ((current ++ f) ∷ more)
 continued_last [] current f more = refl
 continued_last (x ∷ []) current f more = refl

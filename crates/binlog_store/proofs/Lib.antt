@@ -9,9 +9,11 @@ pub mod Counts
 pub mod Putting
 pub mod WholeFiles
 pub mod BehindTheEnd
-pub mod Reading
+pub mod HeldFiles
 pub mod Phases
 pub mod Appending
 pub mod Prefixes
+pub mod LongerLogs
+pub mod Walking
 pub mod Truncating
 pub mod Cutting

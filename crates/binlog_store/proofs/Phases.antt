@@ -18,7 +18,7 @@ use Rattle.binlog_store.specs.Files.{from_file}
 use Rattle.binlog_store.specs.Groups.{log_control, log_files}
 use Rattle.binlog_store.specs.Mounted.{AreHeld, IsSaid}
 use Rattle.binlog_store.specs.Stands.{LogStands, ReadsFiles}
-use Rattle.binlog_store.proofs.Reading.{begins_left, held_reads}
+use Rattle.binlog_store.proofs.HeldFiles.{begins_left, held_reads}
 
 -- ---- a content that reads so
 pub said_stands : (schema : Schema) (log : List Entry) (highest : ℕ) (bytes : Option (List ℕ)) (c : Contents) → IsSaid schema log highest bytes

@@ -22,7 +22,7 @@ at_still : (log more : List Entry) (k : ℕ) (e : Entry) → entry_at log k ≡ 
 at_still log more zero e is = is
 at_still log more (suc k) e is = got_still log more k e is
 
-term_still : (log more : List Entry) (k : ℕ) → k ≤ length log → term_at (log ++ more) k ≡ term_at log k
+pub term_still : (log more : List Entry) (k : ℕ) → k ≤ length log → term_at (log ++ more) k ≡ term_at log k
 term_still log more zero le = refl
 term_still [] more (suc k) le = absurd (omega (arith, le))
 term_still (e ∷ log) more (suc zero) le = refl

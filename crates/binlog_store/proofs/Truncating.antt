@@ -9,7 +9,7 @@ use Rattle.binlog_store.specs.Files.{Begins}
 use Rattle.binlog_store.specs.Mounted.{AreHeld, IsLast}
 use Rattle.binlog_store.specs.Stands.{ReadsFiles, last_length}
 use Rattle.binlog_store.proofs.BehindTheEnd.{take_front}
-use Rattle.binlog_store.proofs.Reading.{some_more}
+use Rattle.binlog_store.proofs.HeldFiles.{some_more}
 
 -- ---- one file that is cut
 firm_less : {n m : ℕ} {f : FileState} → m ≤ n → Firm n f → Firm m f

@@ -5,5 +5,6 @@ pub mod Added
 pub mod Held
 pub mod Files
 pub mod Mounted
+pub mod Following
 pub mod Faults
 pub mod Laws

@@ -28,6 +28,14 @@ impl From<DiskFault> for StoreFault {
     }
 }
 
+impl<T: Drop> From<AllocFailed<T>> for StoreFault {
+    ghost from_gives = { λ _ f. f ≡ fault.Memory };
+
+    fn from(_: AllocFailed<T>) -> Self {
+        StoreFault::Memory
+    }
+}
+
 impl From<AllocError> for StoreFault {
     ghost from_gives = { λ _ f. f ≡ fault.Memory };
 

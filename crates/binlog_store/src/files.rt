@@ -1,15 +1,18 @@
 //! What is written to the binary log files of a disk: bytes behind the end of one, and whole files.
-ghost use Rattle.std.specs.Prelude.{◌≡◌, ◌+◌, ◌≤◌, ◌++◌, true, OnOk, length, take};
+ghost use Rattle.std.specs.Prelude.{◌≡◌, ◌+◌, ◌≤◌, ◌++◌, true, IfOk, OnOk, length, take};
 ghost use Rattle.ring_types.specs.declared.limits.TheConstants.{LAST_FILE};
 ghost use Rattle.edge_traits.specs.DiskCalls.{DiskFails};
-ghost use Rattle.edge_traits.specs.FileStates.{Firm, settled, shortened};
+ghost use Rattle.edge_traits.specs.FileStates.{Firm, MayLeave, settled, shortened};
 ghost use Rattle.edge_traits.specs.Moments.{AtEachMoment};
 ghost use Rattle.edge_traits.specs.Works.{WorksOn};
 ghost use Rattle.edge_traits.specs.declared.disks.FileId.TheVariants as id;
+ghost use Rattle.binlog_store.specs.Faults.{StoreFails};
 ghost use Rattle.binlog_store.specs.Files.{AreAdded, AreSettled, Begins, EndsAt, IsAny, LeavesAny, LeavesFront, from_file};
 
+use crate::faults::StoreFault;
 use edge_traits::{Disk, DiskFault, FileId, put};
 use ring_types::List;
+use std::alloc::Global;
 
 /// Writes bytes behind the end of a file of which the others stand, and syncs it. At each moment of it a
 /// crash leaves the others.
@@ -121,4 +124,22 @@ pub(crate) fn cut_behind<D: Disk>(
 {
     disk.cut(FileId::Binlog(number), at)?;
     empty_files(disk, number + 1, last)
+}
+
+/// All bytes of a file. It is synced first, so what is read is what a crash leaves from then on.
+fn read_file<D: Disk>(disk: &mut D, alloc: Global, number: u32) -> Result<Vec<u8>, StoreFault>
+    ensures told { D.tells disk.old ≡ true → IfOk result (λ it. it.items ≡ (D.files disk.old (id.Binlog number)).bytes) }
+    ensures settled { D.tells disk.old ≡ true → IfOk result (λ it. D.files disk.new (id.Binlog number) ≡ settled it.items) }
+    ensures crash { D.tells disk.old ≡ true → AtEachMoment D.files D.moment D.left_since (id.Binlog number) disk.old disk.new (MayLeave (D.files disk.old (id.Binlog number))) }
+    ensures story { D.story disk.new ≡ D.story disk.old }
+    ensures tells { D.tells disk.new ≡ D.tells disk.old }
+    ensures later { D.faults disk.old ≤ D.faults disk.new }
+    ensures failed { StoreFails (D.faults disk.old) (D.faults disk.new) result }
+{
+    let file = FileId::Binlog(number);
+    disk.sync(file)?;
+    let length = disk.length(file)?;
+    let mut bytes = vec![in alloc; 0u8; length as usize]?;
+    disk.read(file, 0, bytes.as_mut_slice())?;
+    Ok(bytes)
 }

@@ -21,6 +21,7 @@ mod held;
 mod laws;
 mod log_sets;
 mod points;
+mod reading;
 mod stores;
 
 pub use faults::StoreFault;
