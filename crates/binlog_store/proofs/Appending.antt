@@ -4,6 +4,7 @@ use Rattle.ring_types.specs.declared.entries.Entry.{Entry}
 use Rattle.ring_types.specs.declared.entries.Place.{Place}
 use Rattle.ring_types.specs.declared.limits.TheConstants.{LAST_FILE}
 use Rattle.ring_types.specs.declared.schemas.Schema.{Schema}
+use Rattle.ring_types.specs.Logs.{rotates}
 use Rattle.edge_traits.specs.FileStates.{Contents, Files, MayLeave}
 use Rattle.edge_traits.specs.Moments.{AtEachMoment}
 use Rattle.edge_traits.specs.Works.{Holds, IsTelling, Switches, Telling, Works, WorksOn, telling}
@@ -54,6 +55,18 @@ said_next schema held highest h written top end count =
       };
       says = ap point_bytes is;
     }
+
+-- ---- the numbers of files that a point tells
+pub file_point : (schema : Schema) (held : HeldLog) (highest : ℕ) (point : LogPoint) → IsHeldLog schema held → point ≡ point_of held highest → point.file ≡ rotates held.entries + 1
+file_point schema held highest point h is = omega (arith, ap (λ (p : LogPoint). p.file) is, file_is schema held h, count_files schema held.entries)
+
+pub highest_point : (schema : Schema) (held : HeldLog) (highest : ℕ) (point : LogPoint) → IsHeldLog schema held → point ≡ point_of held highest
+    → point.highest ≡ max highest (rotates held.entries + 1)
+highest_point schema held highest point h is =
+    ap (λ (p : LogPoint). p.highest) is ∙ ap (λ (n : ℕ). max highest n) (sym (ap (λ (p : LogPoint). p.file) is) ∙ file_point schema held highest point h is)
+
+pub highest_still : (schema : Schema) (store : BinlogStore) → IsStore schema store → store.highest ≡ max store.highest (rotates (log_of store) + 1)
+highest_still schema store is = omega (arith, is.said.fits.file, count_files schema (log_of store))
 
 -- ---- entries behind the log of a store
 pub few_added : (schema : Schema) (store : BinlogStore) (more : List Entry) → IsStore schema store → IsWritten schema (log_of store ++ more)

@@ -1,4 +1,4 @@
--- Binary log files on a disk. Only private contracts cite this.
+-- Binary log files on a disk. Only private contracts and the store's invariant cite this.
 use Rattle.std.specs.Prelude.{◌≡◌, ℕ, suc, ◌+◌, false, List, [], ◌∷◌, ◌++◌, length, take, nat_le}
 use Rattle.edge_traits.specs.FileStates.{Contents, FileState, Files, Firm, settled}
 use Rattle.edge_traits.specs.Works.{Group}

@@ -1,4 +1,4 @@
--- What may come behind a log (Raft): an entry of the next position, of no lower term than the last one's.
+-- What may come behind a log (Raft), an entry of the next position and of no lower term than the last one's, and how its group is read. Only private contracts cite this.
 use Rattle.std.specs.Prelude.{◌≡◌, ℕ, ◌+◌, ◌-◌, ◌^◌, ◌<◌, ◌≤◌, min, List, [], ◌∷◌, ◌++◌, length}
 use Rattle.ring_types.specs.declared.entries.Entry.{Entry}
 use Rattle.ring_types.specs.declared.entries.Place.{Place}
@@ -41,7 +41,7 @@ before_last [] = []
 before_last (f ∷ []) = []
 before_last (f ∷ (g ∷ more)) = f ∷ before_last (g ∷ more)
 
--- of the log's files the last one goes on to these bytes; if a Rotate ended it there, the head of the next one follows
+-- of the old log's files the last one goes on to these bytes in the new log's; others may follow it
 pub record IsWalked (schema : Schema) (old new : List Entry) (bytes : List ℕ) : Type 0 where
   pub heads : List (List ℕ)
   pub made : files schema new ≡ before_last (files schema old) ++ bytes ∷ heads

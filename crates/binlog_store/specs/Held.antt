@@ -1,4 +1,4 @@
--- A log in memory, with its end. Only private contracts cite this.
+-- A log in memory, with its end. Only private contracts and the store's invariant cite this.
 use Rattle.std.specs.Prelude.{◌≡◌, ◌≤◌, ℕ, List, [], ◌∷◌, ◌++◌, IfSome, length, max}
 use Rattle.ring_types.specs.declared.entries.Entry.{Entry}
 use Rattle.ring_types.specs.declared.entries.Place.{Place}

@@ -44,7 +44,7 @@ AreHeld on n [] = ⊥
 AreHeld on n (bytes ∷ []) = IsLast bytes (on (file.Binlog n))
 AreHeld on n (bytes ∷ (next ∷ more)) = (on (file.Binlog n) ≡ settled bytes) × AreHeld on (suc n) (next ∷ more)
 
--- the disk's files are those of the store
+-- the disk's files are those of the store; also of an empty log, whose first file has its head
 pub record IsMounted (schema : Schema) (store : BinlogStore) (on : Files) : Type 0 where
   pub control : Stands store.control (on file.LogCtl)
   pub files : AreHeld on 1 (files schema (log_of store))

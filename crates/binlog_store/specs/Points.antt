@@ -3,7 +3,7 @@
 --   8      any     how many entries the log has
 --   4      any     the number of its last file
 --   8      any     where it ends in that file
---   4      any     the greatest number of a file that was ever begun
+--   4      any     the greatest number that the last file of a log had which this file told
 use Rattle.std.specs.Prelude.{ℕ, Bool, true, List, ◌++◌}
 use Rattle.std.specs.Int.{w32, w64, to_le_bytes}
 use Rattle.event_frame.specs.Forms.{Form, One, Whole, ◌>>=◌}

@@ -16,7 +16,7 @@ use gtid_set::GtidSet;
 use ring_types::{Entry, Memory, Payload, Place, Schema};
 use std::alloc::{AllocError, Global};
 
-/// What stands at the end of a log.
+/// What a log's files need to go on: its transactions, and the place of the next entry.
 #[derive(Drop)]
 pub(crate) struct LogEnd {
     /// The transactions of the log.

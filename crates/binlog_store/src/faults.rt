@@ -6,13 +6,13 @@ use edge_traits::DiskFault;
 use std::alloc::{AllocError, AllocFailed};
 use thiserror::Error;
 
-/// Why a call on a store was not done.
+/// Why a call on a store failed. The disk holds the old log or the new one.
 #[derive(Clone, Copy, Debug, PartialEq, Eq, Error)]
 pub enum StoreFault {
     /// The disk failed.
     #[error("the disk failed")]
     Disk,
-    /// Memory was wanting, here or at the disk, or a file would have more than 2^64 - 1 bytes.
+    /// Memory was wanting, here or at the disk, or a file would be longer than the disk or a u64 allows.
     #[error("out of memory")]
     Memory,
 }

@@ -1,5 +1,5 @@
-//! What is written to the binary log files of a disk: bytes behind the end of one, and whole files.
-ghost use Rattle.std.specs.Prelude.{◌≡◌, ◌+◌, ◌≤◌, ◌++◌, true, IfOk, OnOk, length, take};
+//! The binary log files of a disk: bytes behind the end of one, whole files, cuts, and reading one.
+ghost use Rattle.std.specs.Prelude.{◌≡◌, ◌+◌, ◌≤◌, ◌++◌, ℕ, ◌<◌, [], true, IfOk, OnOk, length, take};
 ghost use Rattle.ring_types.specs.declared.limits.TheConstants.{LAST_FILE};
 ghost use Rattle.edge_traits.specs.DiskCalls.{DiskFails};
 ghost use Rattle.edge_traits.specs.FileStates.{Firm, MayLeave, settled, shortened};
@@ -14,8 +14,8 @@ use edge_traits::{Disk, DiskFault, FileId, put};
 use ring_types::List;
 use std::alloc::Global;
 
-/// Writes bytes behind the end of a file of which the others stand, and syncs it. At each moment of it a
-/// crash leaves the others.
+/// Writes bytes behind the end of a file whose bytes stand, and syncs it. At each moment of it a crash
+/// leaves the old bytes.
 fn extend_file<D: Disk>(disk: &mut D, number: u32, at: u64, bytes: &[u8]) -> Result<(), DiskFault>
     requires { D.tells disk.old ≡ true → EndsAt at (D.files disk.old (id.Binlog number)) }
     ensures here { D.tells disk.old ≡ true → OnOk result (D.files disk.new (id.Binlog number) ≡ settled ((D.files disk.old (id.Binlog number)).bytes ++ bytes.now)) }
@@ -88,9 +88,10 @@ pub(crate) fn write_added<D: Disk>(
     write_files(disk, number + 1, others)
 }
 
-/// Cuts files of these numbers to nothing. At each moment of it a crash may leave anything of them.
+/// Cuts the files of these numbers to nothing. At each moment of it a crash may leave anything of them.
 fn empty_files<D: Disk>(disk: &mut D, first: u32, last: u32) -> Result<(), DiskFault>
     requires { last ≤ LAST_FILE }
+    ensures here { D.tells disk.old ≡ true → OnOk result ((n : ℕ) → first ≤ n → n < last + 1 → (D.files disk.new (id.Binlog n)).bytes ≡ []) }
     ensures crash { D.tells disk.old ≡ true → WorksOn (from_file first) D.files D.moment D.left_since disk.old disk.new LeavesAny }
     ensures story { D.story disk.new ≡ D.story disk.old }
     ensures tells { D.tells disk.new ≡ D.tells disk.old }
@@ -103,8 +104,8 @@ fn empty_files<D: Disk>(disk: &mut D, first: u32, last: u32) -> Result<(), DiskF
     Ok(())
 }
 
-/// Cuts off what stands behind the end of a log: the rest of its last file, and the files above it up to
-/// the last one ever begun. At each moment of it a crash leaves the bytes before that end, and of the
+/// Cuts off what stands behind the end of a log: the rest of its last file, and the files above it, up to
+/// number `last`. At each moment of it a crash leaves the bytes before that end, and of the
 /// files before the last what it might have left of them.
 pub(crate) fn cut_behind<D: Disk>(
     disk: &mut D,
@@ -116,6 +117,7 @@ pub(crate) fn cut_behind<D: Disk>(
     requires last { last ≤ LAST_FILE }
     requires firm { D.tells disk.old ≡ true → Firm at (D.files disk.old (id.Binlog number)) }
     ensures here { D.tells disk.old ≡ true → OnOk result (D.files disk.new (id.Binlog number) ≡ shortened at (D.files disk.old (id.Binlog number))) }
+    ensures above { D.tells disk.old ≡ true → OnOk result ((n : ℕ) → number + 1 ≤ n → n < last + 1 → (D.files disk.new (id.Binlog n)).bytes ≡ []) }
     ensures crash { D.tells disk.old ≡ true → WorksOn (from_file number) D.files D.moment D.left_since disk.old disk.new (LeavesFront number at (take at (D.files disk.old (id.Binlog number)).bytes)) }
     ensures story { D.story disk.new ≡ D.story disk.old }
     ensures tells { D.tells disk.new ≡ D.tells disk.old }

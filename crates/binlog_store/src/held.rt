@@ -85,8 +85,8 @@ impl Growing {
 }
 
 impl HeldLog {
-    /// The point at which the log ends. `highest` is the greatest number of a file that was ever begun
-    /// before; the log's last file may be a new one.
+    /// The point at which the log ends. `highest` is that of the point before; the log's last file may have
+    /// a greater number.
     pub(crate) fn point(&self, highest: u32) -> LogPoint
         ensures is { result ≡ point_of self.now highest }
         ensures end { result.end < 2 ^ 64 }

@@ -12,7 +12,8 @@ pub fn law_files_go_on()
     ensures { FilesGoOn }
 {}
 
-/// The entry behind a log begins in the last of its files, behind the bytes of it.
+/// The entry behind a log begins in the last of its files, behind the bytes of it; offsets have 64 bits, and
+/// go on from 0 behind the last one.
 pub fn law_end()
     ensures { NextBeginsAtTheEnd }
 {}

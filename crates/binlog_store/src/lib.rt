@@ -2,13 +2,13 @@
 //!
 //! The files are those that `entry_group` makes of a log: each a head and the groups of its entries. The
 //! control file `log.ctl` has the length of the log, the number of its last file, where the log ends in
-//! that file, and the greatest number of a file ever used. What stands behind that end, or in files above,
+//! that file, and the greatest number that a last file had. What stands behind that end, or in files above,
 //! is no part of the log. So an append writes its bytes there, syncs them, and then switches the control
 //! file ([`BinlogStore::append`]); a truncation switches first and cuts afterwards
 //! ([`BinlogStore::truncate`]). Wherever a crash stops them, the files stand for the old log or the new.
 //!
 //! Beside the entries the store keeps the end of the log in memory: its GTID set, and where the next entry
-//! begins. A truncation makes the end anew from the entries that stay, in time that grows with their number.
+//! begins. A truncation makes the end anew from the entries that stay, in time that grows with their number, and with the bytes of the set at each Rotate among them.
 //!
 //! [`law_one_log`]: one content of a disk stands for at most one log. [`law_files_go_on`]: the files of a
 //! longer log are those of the log, continued. [`law_end`]: the next entry begins where they end.

@@ -18,7 +18,7 @@ pub struct LogPoint {
     pub file: u32,
     /// Where the log ends in that file.
     pub end: u64,
-    /// The greatest number of a file that was ever begun.
+    /// The greatest number that the last file of a log had which the control file told.
     pub highest: u32,
 }
 

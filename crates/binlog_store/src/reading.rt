@@ -56,7 +56,7 @@ impl From<AllocError> for ReadFault {
 
 impl HeldLog {
     /// Whether an entry may come behind the log: its position is the next one, its term does not fall, and
-    /// a log may be so long.
+    /// the log is not at its greatest length.
     fn may_follow(&self, entry: &Entry) -> bool
         requires { IsLog self.now.entries }
         ensures { IsTrue result → FollowsLog self.now.entries entry.now }
@@ -69,7 +69,7 @@ impl HeldLog {
         entry.opid.position == position && last.term <= entry.opid.term
     }
 
-    /// Reads the group behind the log from these bytes of its last file, puts its entry to the log, and tells
+    /// Reads the group behind the log from these bytes of its last file, adds its entry to the log, and tells
     /// how many bytes it has. An error tells how far on the first event is with which no group goes on.
     /// After `Memory` the log is given up.
     pub(crate) fn read_next(

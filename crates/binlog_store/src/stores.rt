@@ -1,5 +1,5 @@
 //! The store: the log in memory, and the calls that change it on the disk.
-ghost use Rattle.std.specs.Prelude.{◌≡◌, ◌≤◌, ◌++◌, ◌+◌, [], true, OnOk, Some, length, take};
+ghost use Rattle.std.specs.Prelude.{◌≡◌, ◌≤◌, ◌++◌, ◌+◌, [], true, OnOk, Some, length, take, ℕ, ◌<◌, max, Ok};
 ghost use Rattle.ring_types.specs.Gtids.{gtids};
 ghost use Rattle.ring_types.specs.declared.schemas.Schema.{Schema};
 ghost use Rattle.ring_types.specs.Logs.{rotates};
@@ -26,13 +26,13 @@ use gtid_set::GtidSet;
 use ring_types::{Entry, List, Schema};
 use std::alloc::Global;
 
-/// A log on the disk on which it is mounted. After a fault, let it go and mount the log again: it is as it
-/// was before the call, or as the call would have left it.
+/// A log on the disk on which it is mounted. After a fault, let the store go and mount the log again: the
+/// disk holds the log from before the call, or the one that the call makes.
 #[derive(Drop)]
 pub struct BinlogStore {
     pub(crate) alloc: Global,
     pub(crate) held: HeldLog,
-    /// The greatest number of a file that was ever begun.
+    /// The greatest number that the last file of a log had which the control file told.
     pub(crate) highest: u32,
     pub(crate) control: ControlBlock,
 }
@@ -66,7 +66,7 @@ impl BinlogStore {
         self.held.end.place.file
     }
 
-    /// Puts these bytes into the control file: from then on they say where the log ends.
+    /// Writes this point into the control file: from then on it says where the log ends.
     fn switch<D: Disk>(&mut self, disk: &mut D, point: LogPoint) -> Result<(), StoreFault>
         requires { D.tells disk.old ≡ true → Stands self.old.control (D.files disk.old self.old.control.file) }
         ensures held { self.new.held ≡ self.old.held }
@@ -93,7 +93,7 @@ impl BinlogStore {
     }
 
     /// Puts entries at the end of the log: writes what they add to its files behind the end, syncs it, and
-    /// then switches the control file. No entries make no call on the disk.
+    /// then switches the control file. Without entries it does not call the disk.
     pub fn append<D: Disk>(
         &mut self,
         schema: &Schema,
@@ -109,7 +109,8 @@ impl BinlogStore {
         ensures mounted { D.tells disk.old ≡ true → OnOk result (IsMounted schema.now self.new (D.files disk.new)) }
         ensures holds { D.tells disk.old ≡ true → OnOk result (HoldsOn log_files D.files D.moment D.left_since disk.new (LogStands schema.now (log_of self.old ++ entries))) }
         ensures crash { D.tells disk.old ≡ true → Switches log_files D.files D.moment D.left_since disk.old disk.new (LogStands schema.now (log_of self.old)) (LogStands schema.now (log_of self.old ++ entries)) }
-        ensures nothing { entries ≡ [] → (disk.new ≡ disk.old) × (self.new ≡ self.old) }
+        ensures highest { OnOk result (self.new.highest ≡ max self.old.highest (rotates (log_of self.new) + 1)) }
+        ensures nothing { entries ≡ [] → (result ≡ Ok tt) × (disk.new ≡ disk.old) × (self.new ≡ self.old) }
         ensures story { D.story disk.new ≡ D.story disk.old }
         ensures tells { D.tells disk.new ≡ D.tells disk.old }
         ensures later { D.faults disk.old ≤ D.faults disk.new }
@@ -127,8 +128,8 @@ impl BinlogStore {
     }
 
     /// Leaves the first `position` entries of the log: switches the control file, and then cuts off what
-    /// stands behind the new end. A stop before the cuts leaves bytes there that no log reads; a mount cuts
-    /// them off.
+    /// stands behind the new end, and empties the files above. A stop before the cuts leaves bytes there
+    /// that no log reads.
     pub fn truncate<D: Disk>(
         &mut self,
         schema: &Schema,
@@ -143,6 +144,8 @@ impl BinlogStore {
         ensures store { OnOk result (IsStore schema.now self.new) }
         ensures mounted { D.tells disk.old ≡ true → OnOk result (IsMounted schema.now self.new (D.files disk.new)) }
         ensures holds { D.tells disk.old ≡ true → OnOk result (HoldsOn log_files D.files D.moment D.left_since disk.new (LogStands schema.now (take position (log_of self.old)))) }
+        ensures highest { OnOk result (self.new.highest ≡ max self.old.highest (rotates (log_of self.new) + 1)) }
+        ensures above { D.tells disk.old ≡ true → OnOk result ((n : ℕ) → rotates (take position (log_of self.old)) + 1 < n → n ≤ self.old.highest → (D.files disk.new (id.Binlog n)).bytes ≡ []) }
         ensures crash { D.tells disk.old ≡ true → Switches log_files D.files D.moment D.left_since disk.old disk.new (LogStands schema.now (log_of self.old)) (LogStands schema.now (take position (log_of self.old))) }
         ensures story { D.story disk.new ≡ D.story disk.old }
         ensures tells { D.tells disk.new ≡ D.tells disk.old }

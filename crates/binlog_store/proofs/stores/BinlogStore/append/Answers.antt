@@ -1,5 +1,6 @@
-use Rattle.std.proofs.Common.{◌≡◌, List, [], Some, ◌++◌, length, inl, ap, append-nil, subst, sym, ◌∙◌, rules, arith}
+use Rattle.std.proofs.Common.{◌≡◌, ◌+◌, max, List, [], Some, ◌++◌, length, inl, ap, append-nil, subst, sym, ◌∙◌, rules, arith}
 use Rattle.ring_types.specs.declared.entries.Entry.{Entry}
+use Rattle.ring_types.specs.Logs.{rotates}
 use Rattle.edge_traits.specs.Works.{HoldsOn, IsTelling, telling}
 use Rattle.edge_traits.specs.declared.disks.FileId.TheVariants as id
 use Rattle.edge_traits.proofs.Working.{disk_tells, works_weaker}
@@ -11,7 +12,7 @@ use Rattle.binlog_store.specs.Points.{point_bytes}
 use Rattle.binlog_store.specs.Stands.{IsWritten, LogStands}
 use Rattle.binlog_store.specs.declared.held.HeldLog.{HeldLog}
 use Rattle.binlog_store.specs.declared.points.LogPoint.{LogPoint}
-use Rattle.binlog_store.proofs.Appending.{added_there, append_works, control_still, ends, few_added, held_written, mounted_holds, said_point, switched_mounted, switched_store, works_there, write_works}
+use Rattle.binlog_store.proofs.Appending.{added_there, append_works, control_still, ends, few_added, held_written, highest_point, highest_still, mounted_holds, said_point, switched_mounted, switched_store, works_there, write_works}
 use Rattle.binlog_store.proofs.stores.BinlogStore.append.Goals as goal
 
 pub write_added-requires-clause-few : goal.write_added-requires-clause-few
@@ -96,3 +97,12 @@ returns-clause-holds g c told =
     let same : log_of c.switch.new.self ≡ log_of c.args.self.now ++ c.args.entries = ap (λ (h : HeldLog). h.entries) c.in_ok-switch.ensures.held ∙ c.in_ok-added.ensures.entries in
     subst (λ (l : List Entry). HoldsOn log_files g.D.Disk.files g.D.Disk.moment g.D.Disk.left_since c.switch.new.disk (LogStands c.args.schema.now l)) same
     (mounted_holds c.args.schema.now c.switch.new.self _ (returns-clause-store g c) (returns-clause-mounted g c told) tells)
+
+pub returns-then-is_empty-clause-highest : goal.returns-then-is_empty-clause-highest
+returns-then-is_empty-clause-highest g c = highest_still c.args.schema.now c.args.self.now c.requires.store
+
+pub returns-clause-highest : goal.returns-clause-highest
+returns-clause-highest g c =
+    c.in_ok-switch.ensures.highest
+    ∙ (highest_point c.args.schema.now c.extend.new.self c.args.self.now.highest c.point-point.result c.in_ok-added.ensures.held c.point-point.ensures.is
+    ∙ ap (λ (h : HeldLog). max c.args.self.now.highest (rotates h.entries + 1)) (sym c.in_ok-switch.ensures.held))

@@ -1,5 +1,6 @@
-use Rattle.std.proofs.Common.{◌≡◌, List, take, ap, subst, sym, ◌∙◌}
+use Rattle.std.proofs.Common.{max, ◌+◌, arith, ◌≡◌, List, take, ap, subst, sym, ◌∙◌}
 use Rattle.ring_types.specs.declared.entries.Entry.{Entry}
+use Rattle.ring_types.specs.Logs.{rotates}
 use Rattle.edge_traits.specs.Works.{HoldsOn, IsTelling, Switches, telling}
 use Rattle.edge_traits.proofs.Working.{disk_tells}
 use Rattle.binlog_store.specs.Groups.{log_files}
@@ -7,7 +8,7 @@ use Rattle.binlog_store.specs.Mounted.{log_of}
 use Rattle.binlog_store.specs.Points.{point_bytes}
 use Rattle.binlog_store.specs.Stands.{IsWritten, LogStands}
 use Rattle.binlog_store.specs.declared.held.HeldLog.{HeldLog}
-use Rattle.binlog_store.proofs.Appending.{mounted_holds, said_point, switched_store}
+use Rattle.binlog_store.proofs.Appending.{file_point, highest_point, mounted_holds, said_point, switched_store}
 use Rattle.binlog_store.proofs.Cutting.{held_firm, shortened_there, switch_works, top_file, truncate_mounted, truncate_works, works_cut}
 use Rattle.binlog_store.proofs.Prefixes.{written_first}
 use Rattle.binlog_store.proofs.stores.BinlogStore.truncate.Goals as goal
@@ -79,3 +80,16 @@ returns-clause-crash g c told =
     (truncate_works c.args.schema.now c.args.self.now c.requires.store c.args.position c.cut.new.self c.in_ok-cut.ensures.held c.in_ok-cut.ensures.entries c.switch.new.self
     (point_bytes c.point-point.result) (c.requires.mounted told) c.in_ok-switch.ensures.held (returns-clause-store g c) c.in_ok-switch.ensures.bytes (c.switch.ensures.crash told)
     (c.in_ok-switch.ensures.stands told) (works_cut c.cut.new.self c.args.self.now.highest c.point-point.result c.point-point.ensures.is (c.cut_behind.ensures.crash told_too)))
+
+pub returns-clause-highest : goal.returns-clause-highest
+returns-clause-highest g c =
+    c.in_ok-switch.ensures.highest
+    ∙ (highest_point c.args.schema.now c.cut.new.self c.args.self.now.highest c.point-point.result c.in_ok-cut.ensures.held c.point-point.ensures.is
+    ∙ ap (λ (h : HeldLog). max c.args.self.now.highest (rotates h.entries + 1)) (sym c.in_ok-switch.ensures.held))
+
+pub returns-clause-above : goal.returns-clause-above
+returns-clause-above g c told = λ n less le.
+    let many = ap (λ (l : List Entry). rotates l) c.in_ok-cut.ensures.entries in
+    let file = file_point c.args.schema.now c.cut.new.self c.args.self.now.highest c.point-point.result c.in_ok-cut.ensures.held c.point-point.ensures.is in
+    let high = highest_point c.args.schema.now c.cut.new.self c.args.self.now.highest c.point-point.result c.in_ok-cut.ensures.held c.point-point.ensures.is in
+    c.in_ok-cut_behind.ensures.above (c.switch.ensures.tells ∙ told) n (omega (arith, many, file, less)) (omega (arith, high, le))
