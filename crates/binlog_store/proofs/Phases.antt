@@ -8,7 +8,7 @@ use Rattle.edge_traits.specs.Moments.{AtEachMoment}
 use Rattle.edge_traits.specs.Works.{Group, Holds, IsTelling, MayIn, MayOut, Switches, Telling, Works, seen, telling}
 use Rattle.edge_traits.specs.declared.disks.FileId.{FileId}
 use Rattle.edge_traits.specs.declared.disks.FileId.TheVariants as file
-use Rattle.edge_traits.proofs.Working.{AreWithin, works_at, works_then, works_weaker}
+use Rattle.edge_traits.proofs.Working.{AreWithin, false_of, works_at, works_then, works_weaker}
 use Rattle.control_block.specs.Blocks.{Stands}
 use Rattle.control_block.specs.ControlFiles.{IsEither, control_of}
 use Rattle.control_block.specs.declared.blocks.ControlBlock.{ControlBlock}
@@ -27,24 +27,17 @@ said_stands schema log highest None c said read is = rw is said.says
 said_stands schema log highest (Some bytes) c said read is = rw is (record { highest = highest; point = said.says; point_fits = said.fits; written = said.written; read = read })
 
 -- ---- a call that works on some of the files, beside what the others hold
-no_own : {own more : Group} → AreWithin own more → (f : FileId) → more f ≡ false → own f ≡ false
-no_own {own = own} within f out = go (own f) refl
-  where
-    go : (b : Bool) → own f ≡ b → own f ≡ false
-    go false is = is
-    go true is = absurd (let z : true ≡ false = sym (within f is) ∙ out in cc)
-
 works_beside : (own more : Group) (a b : Telling) (P Q : Contents → Type 0) → AreWithin own more → ((c : Contents) → P c → MayOut own a.files c → Q c)
     → Works own a b P
     → Works more a b Q
 works_beside own more a b P Q within told x = record {
   crash = record { later = x.crash.later; before = λ t c early left. turn t c (x.crash.before t c early left) };
-  others = λ f out. x.others f (no_own within f out);
+  others = λ f out. x.others f (false_of own more within f out);
 }
   where
     turn : (t : ℕ) (c : Contents) → (a.left_since t c ⊎ (P c × MayOut own a.files c)) → a.left_since t c ⊎ (Q c × MayOut more a.files c)
     turn t c (inl old) = inl old
-    turn t c (inr new) = inr (told c new.0 new.1, λ f out. new.1 f (no_own within f out))
+    turn t c (inr new) = inr (told c new.0 new.1, λ f out. new.1 f (false_of own more within f out))
 
 -- ---- the groups
 pub control_within : AreWithin log_control log_files

@@ -13,7 +13,7 @@ AreApart own among = (f : FileId) → among f ≡ true → own f ≡ false
 abbrev pub AreWithin : Group → Group → Type 0
 AreWithin few more = (f : FileId) → few f ≡ true → more f ≡ true
 
-false_of : (few more : Group) → AreWithin few more → (f : FileId) → more f ≡ false → few f ≡ false
+pub false_of : (few more : Group) → AreWithin few more → (f : FileId) → more f ≡ false → few f ≡ false
 false_of few more w f out = go (few f) refl
   where
     go : (b : Bool) → few f ≡ b → few f ≡ false

@@ -1,11 +1,11 @@
-ghost use Rattle.std.specs.Prelude.{◌≡◌, ◌≤◌, ◌<◌, ◌+◌, ◌^◌, ◌++◌, length, take, true, IfOk, OnOk, OnErr};
+ghost use Rattle.std.specs.Prelude.{◌≡◌, ◌≤◌, ◌<◌, ◌+◌, ◌^◌, ◌++◌, length, take, true, IfErr, IfOk, OnOk, OnErr};
 ghost use Rattle.event_control.specs.ControlEvents.{rotation_at};
 ghost use Rattle.event_txn.specs.Reading.{offset_of};
 ghost use Rattle.event_txn.specs.Txns.{txn_at};
 ghost use Rattle.ring_types.specs.Rings.{is_schema};
 ghost use Rattle.ring_types.specs.Rows.{payload_fits};
 ghost use Rattle.entry_group.specs.Groups as spec;
-ghost use Rattle.entry_group.specs.Reading.{Gives};
+ghost use Rattle.entry_group.specs.Reading.{Gives, fault_at};
 ghost use Rattle.entry_group.specs.declared.groups.EntryError.TheVariants as error;
 
 use event_control::{OpidEvent, read_opid, read_rotate, write_opid, write_rotate};
@@ -73,6 +73,7 @@ fn rotation_behind(bytes: &[u8], size: u64, place: Place) -> Result<(Payload, u6
     requires { place.file < LAST_FILE }
     ensures given { result ≡ spec.rotation_of size place (rotation_at bytes.now place.at) }
     ensures end { IfOk result (λ x. x.1 ≤ length bytes.now) }
+    ensures fault { IfErr result (λ e. fault_at e ≤ size) }
 {
     match read_rotate(bytes, place.at) {
         Ok(rotation) if rotation.next_file == place.file + 1 => {
@@ -96,7 +97,8 @@ fn not_of_a_transaction(size: u64, at: u64) -> EntryError
 /// Where the event at fault begins, if the transaction's events begin at this offset.
 fn fault_in(size: u64, fault: TxnError) -> EntryError
     requires { size + offset_of fault < 2 ^ 64 }
-    ensures { result ≡ spec.fault_in size fault }
+    ensures is { result ≡ spec.fault_in size fault }
+    ensures place { fault_at result ≤ size + offset_of fault }
 {
     match fault {
         TxnError::Order { at } => not_of_a_transaction(size, at),
@@ -119,6 +121,7 @@ fn txn_behind(
     requires schema { is_schema schema.now ≡ true }
     requires size { opid.now.size + length bytes.now < 2 ^ 64 }
     ensures end { IfOk result (λ x. x.1 ≤ length bytes.now) }
+    ensures fault { IfErr result (λ e. fault_at e ≤ opid.now.size + length bytes.now) }
     ensures given { Gives (λ x. x) result (spec.txn_of opid.now.size (txn_at schema.now bytes.now opid.now.opid.position place)) }
 {
     match read_txn(alloc, schema, bytes, opid.opid.position, place) {
@@ -139,6 +142,7 @@ fn payload_at(
     requires size { opid.now.size + length bytes.now < 2 ^ 64 }
     requires file { opid.now.kind ≡ 2 → place.file < LAST_FILE }
     ensures end { IfOk result (λ x. x.1 ≤ length bytes.now) }
+    ensures fault { IfErr result (λ e. fault_at e ≤ opid.now.size + length bytes.now) }
     ensures given { Gives (λ x. x) result (spec.payload_at schema.now bytes.now opid.now.size opid.now place) }
 {
     match opid.kind {
@@ -158,7 +162,8 @@ pub fn read_entry(
     place: Place,
 ) -> Result<EntryRead, EntryError>
     requires { is_schema schema.now ≡ true }
-    ensures { Gives (λ it. it) result (spec.entry_at schema.now bytes.now place) }
+    ensures given { Gives (λ it. it) result (spec.entry_at schema.now bytes.now place) }
+    ensures fault { IfErr result (λ e. fault_at e ≤ length bytes.now) }
 {
     let opid = match read_opid(bytes, place.at) {
         Ok(opid) => opid,

@@ -4,18 +4,15 @@ use Rattle.std.specs.Prelude.{IfOk}
 use Rattle.std.specs.List.{list_all}
 use Rattle.std.proofs.lemmas.Bool.Decides.{nat_tests}
 use Rattle.ring_types.specs.Gtids.{with_number}
+use Rattle.ring_types.proofs.Booleans.{both_true}
 
 abbrev are_below : ℕ → List ℕ → Bool
 are_below bound xs = list_all (λ (x : ℕ). nat_le x bound) xs
 
-both : (a b : Bool) → (a && b) ≡ true → (a ≡ true) × (b ≡ true)
-both true b h = (refl, h)
-both false b h = absurd (let z : false ≡ true = h in cc)
-
 pub put_last : (bound n : ℕ) (xs : List ℕ) → bound < n → are_below bound xs ≡ true → with_number n xs ≡ xs ++ n ∷ []
 put_last bound n [] above h = refl
 put_last bound n (x ∷ xs) above h =
-    let parts = both (nat_le x bound) (are_below bound xs) h in
+    let parts = both_true (nat_le x bound) (are_below bound xs) h in
     let first : x ≤ bound = let t = parts.0 in grind (arith, nat_tests) in
     let rest = put_last bound n xs above parts.1 in
     grind (arith, nat_tests)
@@ -23,7 +20,7 @@ put_last bound n (x ∷ xs) above h =
 pub last_below : (bound n : ℕ) (xs : List ℕ) → bound < n → are_below bound xs ≡ true → are_below (max bound n) (xs ++ n ∷ []) ≡ true
 last_below bound n [] above h = grind (arith, nat_tests)
 last_below bound n (x ∷ xs) above h =
-    let parts = both (nat_le x bound) (are_below bound xs) h in
+    let parts = both_true (nat_le x bound) (are_below bound xs) h in
     let first : nat_le x (max bound n) ≡ true = let t = parts.0 in grind (arith, nat_tests) in
     rw first (last_below bound n xs above parts.1)
 
@@ -36,7 +33,7 @@ put_by bound n x xs false false within first h more = rw first more
 put_under : (bound n : ℕ) (xs : List ℕ) → nat_le n bound ≡ true → are_below bound xs ≡ true → are_below bound (with_number n xs) ≡ true
 put_under bound n [] within h = rw within refl
 put_under bound n (x ∷ xs) within h =
-    let parts = both (nat_le x bound) (are_below bound xs) h in
+    let parts = both_true (nat_le x bound) (are_below bound xs) h in
     put_by bound n x xs (nat_lt n x) (n == x) within parts.0 parts.1 (put_under bound n xs within parts.1)
 
 pub put_below : (bound n : ℕ) (xs : List ℕ) → n ≤ bound → are_below bound xs ≡ true → are_below (max bound n) (with_number n xs) ≡ true

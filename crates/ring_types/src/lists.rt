@@ -176,7 +176,9 @@ impl<T: Duplicate + Drop> List<T> {
 
 impl<T: Duplicate + Drop> Duplicate for List<T> {
     fn copy(&self, alloc: Global) -> Result<List<T>, Memory> {
-        let mut list = List::new(alloc);
+        let mut list = List {
+            items: Vec::with_capacity(alloc, self.items.len())?,
+        };
         list.extend_copies(alloc, self.items.as_slice())?;
         Ok(list)
     }
