@@ -40,16 +40,16 @@ some_more f [] [] = omega arith
 some_more f [] (g ∷ more) = omega arith
 some_more f (g ∷ written) more = omega arith
 
-reads_split : (c : Contents) (n : ℕ) (f : List ℕ) (rest : List (List ℕ)) → 0 < length rest → ReadsFiles c n (f ∷ rest)
+pub reads_split : (c : Contents) (n : ℕ) (f : List ℕ) (rest : List (List ℕ)) → 0 < length rest → ReadsFiles c n (f ∷ rest)
     → (c (file.Binlog n) ≡ f) × ReadsFiles c (suc n) rest
 reads_split c n f [] some h = absurd (omega (arith, some))
 reads_split c n f (g ∷ rest) some h = h
 
-front_of : (f g read : List ℕ) → take (length (f ++ g)) read ≡ f ++ g → take (length f) read ≡ f
+pub front_of : (f g read : List ℕ) → take (length (f ++ g)) read ≡ f ++ g → take (length f) read ≡ f
 front_of f g read is =
     sym (take-take (length f) (length (f ++ g)) read (omega (arith, length-append f g))) ∙ (ap (take (length f)) is ∙ take_front (length f) f g refl)
 
-front_of_whole : (f g read : List ℕ) → read ≡ f ++ g → take (length f) read ≡ f
+pub front_of_whole : (f g read : List ℕ) → read ≡ f ++ g → take (length f) read ≡ f
 front_of_whole f g read is = ap (take (length f)) is ∙ take_front (length f) f g refl
 
 -- what reads as the longer log reads as the log
@@ -73,7 +73,7 @@ pub settled_held : (on : Files) (n : ℕ) (bytes : List ℕ) (more : List (List 
 settled_held on n bytes [] is all = settled_last bytes (on (file.Binlog n)) is
 settled_held on n bytes (next ∷ more) is all = (is, settled_held on (suc n) next more all.0 all.1)
 
-held_join : (on : Files) (n : ℕ) (f : List ℕ) (rest : List (List ℕ)) → on (file.Binlog n) ≡ settled f → AreHeld on (suc n) rest → AreHeld on n (f ∷ rest)
+pub held_join : (on : Files) (n : ℕ) (f : List ℕ) (rest : List (List ℕ)) → on (file.Binlog n) ≡ settled f → AreHeld on (suc n) rest → AreHeld on n (f ∷ rest)
 held_join on n f [] is held = absurd held
 held_join on n f (g ∷ rest) is held = (is, held)
 

@@ -27,12 +27,13 @@ put_some old new e t is canonical also log of range =
     let has_it : gtid_of e ≡ Some t.gtid = rw is refl in
     grows_with_log log e t.gtid new has_it range canonical (subst (λ (set : List ServerSet). HasAlso set t.gtid.server t.gtid.number new) of also)
 
-pub put_none : (set : List ServerSet) (e : Entry) → gtid_of e ≡ None → Lengthens e set set
+pub none_more : (log : List Entry) (e : Entry) → gtid_of e ≡ None → gtids (log ++ e ∷ []) ≡ gtids log
 unfolding gtids
-put_none set e is log of range =
-    let same : gtids_in (log ++ e ∷ []) ≡ gtids_in log =
-    filter_map-append gtid_of log (e ∷ []) ∙ (ap (λ (o : Option Gtid). gtids_in log ++ cons_option o []) is ∙ append-nil (gtids_in log)) in
-    of ∙ ap set_of (sym same)
+none_more log e is =
+    ap set_of (filter_map-append gtid_of log (e ∷ []) ∙ (ap (λ (o : Option Gtid). gtids_in log ++ cons_option o []) is ∙ append-nil (gtids_in log)))
+
+pub put_none : (set : List ServerSet) (e : Entry) → gtid_of e ≡ None → Lengthens e set set
+put_none set e is log of range = of ∙ sym (none_more log e is)
 
 -- the empty set takes eight bytes
 pub short_set : (set : List ServerSet) (bytes : List ℕ) → set ≡ [] → bytes ≡ set_bytes set → length bytes ≤ MOST_BODY_BYTES

@@ -10,22 +10,20 @@ use Rattle.ring_types.specs.declared.entries.Entry.{Entry}
 use Rattle.ring_types.specs.declared.entries.Payload.{Payload}
 use Rattle.ring_types.specs.declared.entries.Payload.TheVariants as payload
 use Rattle.ring_types.specs.declared.entries.Place.{Place}
-use Rattle.ring_types.specs.declared.limits.TheConstants.{LAST_FILE, TERM_END}
+use Rattle.ring_types.specs.declared.limits.TheConstants.{LAST_FILE}
 use Rattle.ring_types.specs.declared.schemas.Schema.{Schema}
 use Rattle.std.proofs.lemmas.Bool.Decides.{nat_tests}
 use Rattle.entry_group.specs.Files.{first_place, place_behind}
 use Rattle.entry_group.specs.Groups.{can_stand, kind_of}
-use Rattle.entry_group.specs.Laws.{AllStand, IsGroupAtFront, StandsAt}
-use Rattle.entry_group.specs.declared.groups.EntryRead.{EntryRead}
-use Rattle.ring_types.specs.declared.entries.Opid.{Opid}
+use Rattle.entry_group.specs.Laws.{AllStand, StandsAt}
 use Rattle.binlog_store.specs.Added.{end_of, place_from}
 use Rattle.binlog_store.specs.Held.{IsEnd}
 use Rattle.binlog_store.specs.Stands.{IsWritten}
 use Rattle.binlog_store.specs.declared.ends.LogEnd.{LogEnd}
 use Rattle.binlog_store.proofs.Counts.{count_files, few_counted}
 use Rattle.binlog_store.proofs.NextPlaces.{next_begins_at_the_end}
-use Rattle.ring_types.specs.Logs.{IsLog, entry_at, is_rotate, last, rotates, term_at}
-use Rattle.binlog_store.specs.Following.{FollowsLog, IsNextGroup}
+use Rattle.ring_types.specs.Logs.{IsLog, entry_at, is_rotate, rotates, term_at}
+use Rattle.binlog_store.specs.Following.{FollowsLog}
 use Rattle.binlog_store.proofs.Prefixes.{term_still}
 
 got_last : (log : List Entry) (e x : Entry) (i : ℕ) → slice_get (log ++ e ∷ []) i ≡ Some x → (slice_get log i ≡ Some x) ⊎ ((i ≡ length log) × (x ≡ e))
@@ -45,7 +43,7 @@ placed_next log e is next (suc k) x at =
     omega (arith, here, same, new.0))
     (got_last log e x k at)
 
-term_last : (log : List Entry) (e : Entry) → term_at (log ++ e ∷ []) (suc (length log)) ≡ e.opid.term
+pub term_last : (log : List Entry) (e : Entry) → term_at (log ++ e ∷ []) (suc (length log)) ≡ e.opid.term
 term_last [] e = refl
 term_last (x ∷ log) e = term_last_of log e
   where
@@ -111,35 +109,21 @@ rotate_fits schema p e payload.NoOp n is room at few = rw is (omega (arith, few)
 rotate_fits schema p e payload.Rotate n is room at few = rw is (grind (arith, nat_tests, room, at))
 rotate_fits schema p e (payload.Txn t) n is room at few = rw is (omega (arith, few))
 
+pub written_at : (schema : Schema) (log : List Entry) (e : Entry) → IsWritten schema log → FollowsLog log e → StandsAt schema (end_of schema log) e
+    → IsWritten schema (log ++ e ∷ [])
+written_at schema log e written next stands =
+    let at : (end_of schema log).file ≡ rotates log + 1 = omega (arith, count_files schema log, (next_begins_at_the_end schema log).0) in
+    record {
+      is_log = log_next log e written.is_log next (rotate_fits schema (end_of schema log) e e.payload (rotates log) refl stands.room at written.is_log.few_files);
+      stand = stand_more schema first_place [] log e written.stand stands;
+    }
+
 pub written_next : (schema : Schema) (log : List Entry) (e : Entry) (end : LogEnd) → IsEnd schema log end → IsWritten schema log → FollowsLog log e
     → StandsAt schema end.place e
     → IsWritten schema (log ++ e ∷ [])
-written_next schema log e end is written next stands =
-    let there : StandsAt schema (end_of schema log) e = subst (λ (p : Place). StandsAt schema p e) is.place_is stands in
-    let many = count_files schema log in
-    let at : end.place.file ≡ rotates log + 1 = omega (arith, many, ap (λ (p : Place). p.file) is.place_is, (next_begins_at_the_end schema log).0) in
-    record {
-      is_log = log_next log e written.is_log next (rotate_fits schema end.place e e.payload (rotates log) refl stands.room at written.is_log.few_files);
-      stand = stand_more schema first_place [] log e written.stand there;
-    }
+written_next schema log e end is written next stands = written_at schema log e written next (subst (λ (p : Place). StandsAt schema p e) is.place_is stands)
 
 pub next_counted : (schema : Schema) (log : List Entry) (end : LogEnd) → IsEnd schema log end → IsWritten schema log → end.place.sequence + 1 < 2 ^ 64
 next_counted schema log end is written =
     let few : end.place.sequence ≤ 1 + length log = subst (λ (p : Place). p.sequence ≤ 1 + length log) (sym is.place_is) (few_counted schema log) in
     omega (arith, few, written.is_log.short)
-
--- ---- what was read there
-pub follows_last : (log : List Entry) (e : Entry) (o : Opid) → o ≡ last log → o.position + 1 < TERM_END → e.opid.position ≡ o.position + 1
-    → o.term ≤ e.opid.term → FollowsLog log e
-follows_last log e o is short position term =
-    let long : o.position ≡ length log = ap (λ (x : Opid). x.position) is in
-    record {
-      position = omega (arith, position, long);
-      short = omega (arith, short, long);
-      term = subst (λ (x : Opid). x.term ≤ e.opid.term) is term;
-    }
-
-pub next_group : (schema : Schema) (place : Place) (log longer : List Entry) (bytes : List ℕ) (read : EntryRead) → IsGroupAtFront schema bytes place read
-    → longer ≡ log ++ read.entry ∷ []
-    → IsNextGroup schema place log bytes read.size longer
-next_group schema place log longer bytes read front grown = record { entry = read.entry; rest = front.rest; stands = front.entry; parts = front.parts; size_is = front.size; grown = grown }

@@ -1,12 +1,11 @@
 -- An append and a truncation each write what one of the logs does not read, and switch the control file: so at each moment the one log stands or the other.
-use Rattle.std.proofs.Common.{◌≡◌, ℕ, suc, ◌+◌, ◌<◌, ◌⊎◌, inl, inr, Bool, true, false, List, length, Option, Some, None, refl, sym, ◌∙◌, arith}
+use Rattle.std.proofs.Common.{◌≡◌, ℕ, suc, ◌+◌, ◌<◌, ◌⊎◌, inl, inr, true, false, List, length, Option, Some, None, refl, arith}
 use Rattle.std.proofs.lemmas.Bool.Decides.{nat_tests}
 use Rattle.ring_types.specs.declared.entries.Entry.{Entry}
 use Rattle.ring_types.specs.declared.schemas.Schema.{Schema}
 use Rattle.edge_traits.specs.FileStates.{Contents, Files, MayLeave}
 use Rattle.edge_traits.specs.Moments.{AtEachMoment}
 use Rattle.edge_traits.specs.Works.{Group, Holds, IsTelling, MayIn, MayOut, Switches, Telling, Works, seen, telling}
-use Rattle.edge_traits.specs.declared.disks.FileId.{FileId}
 use Rattle.edge_traits.specs.declared.disks.FileId.TheVariants as file
 use Rattle.edge_traits.proofs.Working.{AreWithin, false_of, works_at, works_then, works_weaker}
 use Rattle.control_block.specs.Blocks.{Stands}

@@ -44,7 +44,7 @@ log_still schema log more is = record {
   few_files = omega (arith, is.few_files, count_files schema log, count_files schema (log ++ more), count_added schema log more, some_added schema log more);
 }
 
-written_still : (schema : Schema) (log more : List Entry) → IsWritten schema (log ++ more) → IsWritten schema log
+pub written_still : (schema : Schema) (log more : List Entry) → IsWritten schema (log ++ more) → IsWritten schema log
 written_still schema log more is = record { is_log = log_still schema log more is.is_log; stand = stand_still schema first_place [] log more is.stand }
 
 pub written_first : (schema : Schema) (n : ℕ) (log : List Entry) → IsWritten schema log → IsWritten schema (take n log)

@@ -1,7 +1,8 @@
-use Rattle.std.specs.Prelude.{ℕ, Result, Err}
+use Rattle.std.specs.Prelude.{ℕ, Result, Ok, Err}
 use Rattle.edge_traits.specs.Counts.{Rose}
 use Rattle.edge_traits.specs.declared.disks.DiskFault.{DiskFault}
 use Rattle.edge_traits.specs.declared.disks.DiskFault.TheVariants as disk
+use Rattle.edge_traits.specs.declared.disks.FileId.{FileId}
 use Rattle.binlog_store.specs.declared.faults.StoreFault.{StoreFault}
 use Rattle.binlog_store.specs.declared.faults.StoreFault.TheVariants as fault
 
@@ -9,7 +10,32 @@ abbrev pub fault_of : DiskFault → StoreFault
 fault_of disk.Failed = fault.Disk
 fault_of disk.Memory = fault.Memory
 
--- a fault of the disk comes only if its count of faults rose
+-- a fault of the disk comes only if its count of faults rose; damage is found at a mount alone
 abbrev pub StoreFails : {T : Type 0} → ℕ → ℕ → Result T StoreFault → Type 0
 StoreFails before now (Err fault.Disk) = Rose before now
+StoreFails before now (Err (fault.Damaged f at)) = ⊥
 StoreFails before now _ = Unit {0}
+
+abbrev pub MountFails : {T : Type 0} → ℕ → ℕ → Result T StoreFault → Type 0
+MountFails before now (Err fault.Disk) = Rose before now
+MountFails before now _ = Unit {0}
+
+-- the damage that is answered has P
+abbrev pub IfDamaged : {T : Type 0} → (FileId → ℕ → Type 0) → Result T StoreFault → Type 0
+IfDamaged P (Err (fault.Damaged f at)) = P f at
+IfDamaged P _ = Unit {0}
+
+-- P holds if all was read that the answer needs
+abbrev pub IfRead : {T : Type 0} → Type 0 → Result T StoreFault → Type 0
+IfRead P (Ok x) = P
+IfRead P (Err (fault.Damaged f at)) = P
+IfRead P _ = Unit {0}
+
+-- damage of this file, at this offset
+abbrev pub damage : FileId × ℕ → StoreFault
+damage place = fault.Damaged place.0 place.1
+
+-- an answer that no disk gives
+abbrev pub IsNoDisk : {T : Type 0} → Result T StoreFault → Type 0
+IsNoDisk (Err fault.Disk) = ⊥
+IsNoDisk _ = Unit {0}

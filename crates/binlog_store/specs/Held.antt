@@ -1,5 +1,5 @@
 -- A log in memory, with its end. Only private contracts and the store's invariant cite this.
-use Rattle.std.specs.Prelude.{◌≡◌, ◌≤◌, ℕ, List, [], ◌∷◌, ◌++◌, IfSome, length, max}
+use Rattle.std.specs.Prelude.{◌≡◌, ◌≤◌, ◌+◌, ℕ, List, [], ◌∷◌, ◌++◌, IfSome, length, max}
 use Rattle.ring_types.specs.declared.entries.Entry.{Entry}
 use Rattle.ring_types.specs.declared.entries.Place.{Place}
 use Rattle.ring_types.specs.declared.limits.TheConstants.{LAST_GTID}
@@ -7,7 +7,7 @@ use Rattle.ring_types.specs.declared.schemas.Schema.{Schema}
 use Rattle.ring_types.specs.declared.values.Gtid.{Gtid}
 use Rattle.ring_types.specs.Gtids.{gtid_of, gtids, gtids_in}
 use Rattle.gtid_set.specs.Laws.{AreInRange}
-use Rattle.entry_group.specs.Files.{files, files_from, place_behind}
+use Rattle.entry_group.specs.Files.{files, files_from, head_after, place_behind}
 use Rattle.binlog_store.specs.Added.{end_of, reach}
 use Rattle.binlog_store.specs.Stands.{last_length}
 use Rattle.binlog_store.specs.declared.ends.LogEnd.{LogEnd}
@@ -42,3 +42,20 @@ files_of growing = growing.ended ++ growing.current.items ∷ []
 -- where the log ends, if files of no greater number than this were begun before
 abbrev pub point_of : HeldLog → ℕ → LogPoint
 point_of held highest = record { count = length held.entries; file = held.end.place.file; end = held.end.place.at; highest = max highest held.end.place.file }
+
+-- the log ends behind the head of the next file
+pub record IsNextFile (place : Place) (held : HeldLog) : Type 0 where
+  pub number : held.end.place.file ≡ place.file + 1
+  pub at_is : held.end.place.at ≡ length (head_after held.entries)
+
+-- the log ends in this file, there, and has so many entries
+pub record IsLastFile (place : Place) (at count : ℕ) (held : HeldLog) : Type 0 where
+  pub number : held.end.place.file ≡ place.file
+  pub at_is : held.end.place.at ≡ at
+  pub count_is : length held.entries ≡ count
+
+-- the log ends at the point
+pub record EndsThere (point : LogPoint) (held : HeldLog) : Type 0 where
+  pub number : held.end.place.file ≡ point.file
+  pub at_is : held.end.place.at ≡ point.end
+  pub count_is : length held.entries ≡ point.count

@@ -6,5 +6,8 @@ pub mod Held
 pub mod Files
 pub mod Mounted
 pub mod Following
+pub mod Longest
+pub mod Damages
+pub mod Mounting
 pub mod Faults
 pub mod Laws

@@ -2,11 +2,11 @@ ghost use Rattle.std.specs.Prelude.{◌≡◌};
 ghost use Rattle.binlog_store.specs.Faults.{fault_of};
 ghost use Rattle.binlog_store.specs.declared.faults.StoreFault.TheVariants as fault;
 
-use edge_traits::DiskFault;
+use edge_traits::{DiskFault, FileId};
 use std::alloc::{AllocError, AllocFailed};
 use thiserror::Error;
 
-/// Why a call on a store failed. The disk holds the old log or the new one.
+/// Why a call on a store failed. Of an append or a truncation the disk holds the old log or the new one.
 #[derive(Clone, Copy, Debug, PartialEq, Eq, Error)]
 pub enum StoreFault {
     /// The disk failed.
@@ -15,6 +15,10 @@ pub enum StoreFault {
     /// Memory was wanting, here or at the disk, or a file would be longer than the disk or a u64 allows.
     #[error("out of memory")]
     Memory,
+    /// At a mount alone: the files stand for no log. At this offset of this file begins the first event
+    /// with which no log goes on; of the control file the offset is 0.
+    #[error("the log is damaged: {file:?} at {at}")]
+    Damaged { file: FileId, at: u64 },
 }
 
 impl From<DiskFault> for StoreFault {

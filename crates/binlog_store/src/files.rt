@@ -29,7 +29,7 @@ fn extend_file<D: Disk>(disk: &mut D, number: u32, at: u64, bytes: &[u8]) -> Res
 }
 
 /// Writes a file anew: what it had is cut off, and the bytes are written and synced.
-fn write_file<D: Disk>(disk: &mut D, number: u32, bytes: &[u8]) -> Result<(), DiskFault>
+pub(crate) fn write_file<D: Disk>(disk: &mut D, number: u32, bytes: &[u8]) -> Result<(), DiskFault>
     ensures here { D.tells disk.old ≡ true → OnOk result (D.files disk.new (id.Binlog number) ≡ settled bytes.now) }
     ensures crash { D.tells disk.old ≡ true → AtEachMoment D.files D.moment D.left_since (id.Binlog number) disk.old disk.new IsAny }
     ensures story { D.story disk.new ≡ D.story disk.old }
@@ -129,7 +129,11 @@ pub(crate) fn cut_behind<D: Disk>(
 }
 
 /// All bytes of a file. It is synced first, so what is read is what a crash leaves from then on.
-fn read_file<D: Disk>(disk: &mut D, alloc: Global, number: u32) -> Result<Vec<u8>, StoreFault>
+pub(crate) fn read_file<D: Disk>(
+    disk: &mut D,
+    alloc: Global,
+    number: u32,
+) -> Result<Vec<u8>, StoreFault>
     ensures told { D.tells disk.old ≡ true → IfOk result (λ it. it.items ≡ (D.files disk.old (id.Binlog number)).bytes) }
     ensures settled { D.tells disk.old ≡ true → IfOk result (λ it. D.files disk.new (id.Binlog number) ≡ settled it.items) }
     ensures crash { D.tells disk.old ≡ true → AtEachMoment D.files D.moment D.left_since (id.Binlog number) disk.old disk.new (MayLeave (D.files disk.old (id.Binlog number))) }

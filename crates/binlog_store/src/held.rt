@@ -2,8 +2,9 @@
 ghost use Rattle.std.specs.Prelude.{◌≡◌, ◌≤◌, ◌++◌, ◌∷◌, ◌^◌, ◌<◌, [], true, IfOk, List, OnOk, length, take};
 ghost use Rattle.ring_types.specs.declared.entries.Entry.{Entry};
 ghost use Rattle.ring_types.specs.Gtids as sets;
+ghost use Rattle.ring_types.specs.declared.schemas.Schema.{Schema};
 ghost use Rattle.ring_types.specs.Rings.{is_schema};
-ghost use Rattle.entry_group.specs.Files.{files_from};
+ghost use Rattle.entry_group.specs.Files.{files_from, head_after};
 ghost use Rattle.entry_group.specs.Laws.{StandsAt};
 ghost use Rattle.binlog_store.specs.Added.{added, continued};
 ghost use Rattle.binlog_store.specs.Held.{IsHeldLog, files_of, point_of};
@@ -85,6 +86,18 @@ impl Growing {
 }
 
 impl HeldLog {
+    /// The empty log.
+    pub(crate) fn new(alloc: Global) -> Result<HeldLog, Memory>
+        ensures empty { IfOk result (λ it. it.entries ≡ []) }
+        ensures held { IfOk result (λ it. (schema : Schema) → IsHeldLog schema it) }
+        ensures begun { IfOk result (λ it. (it.end.place.file ≡ 1) × (it.end.place.at ≡ length (head_after []))) }
+    {
+        Ok(HeldLog {
+            entries: List::new(alloc),
+            end: LogEnd::new(alloc)?,
+        })
+    }
+
     /// The point at which the log ends. `highest` is that of the point before; the log's last file may have
     /// a greater number.
     pub(crate) fn point(&self, highest: u32) -> LogPoint

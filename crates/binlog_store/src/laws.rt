@@ -1,5 +1,5 @@
 ghost use Rattle.binlog_store.specs.Added.{FilesGoOn};
-ghost use Rattle.binlog_store.specs.Laws.{NextBeginsAtTheEnd, OneLogAtMost};
+ghost use Rattle.binlog_store.specs.Laws.{NextBeginsAtTheEnd, OneFaultAtMost, OneLogAtMost, StandsUndamaged};
 
 /// A content of a disk stands for one log at most.
 pub fn law_one_log()
@@ -16,4 +16,14 @@ pub fn law_files_go_on()
 /// go on from 0 behind the last one.
 pub fn law_end()
     ensures { NextBeginsAtTheEnd }
+{}
+
+/// A content that stands for a log is not damaged.
+pub fn law_undamaged()
+    ensures { StandsUndamaged }
+{}
+
+/// A content is damaged in one file at most, at one offset.
+pub fn law_one_fault()
+    ensures { OneFaultAtMost }
 {}

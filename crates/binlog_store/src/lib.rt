@@ -7,24 +7,37 @@
 //! file ([`BinlogStore::append`]); a truncation switches first and cuts afterwards
 //! ([`BinlogStore::truncate`]). Wherever a crash stops them, the files stand for the old log or the new.
 //!
-//! Beside the entries the store keeps the end of the log in memory: its GTID set, and where the next entry
-//! begins. A truncation makes the end anew from the entries that stay, in time that grows with their number, and with the bytes of the set at each Rotate among them.
+//! A mount ([`BinlogStore::mount`]) reads the log up to that end and cuts off what stands behind it, so it
+//! does again what a stopped truncation left. Where the files stand for no log it names a file and the offset
+//! of the first event with which no log goes on ([`StoreFault::Damaged`]): behind the longest log whose files
+//! they begin with. Of `log.ctl` the offset is 0: its own bytes are at fault, or they name another length, or
+//! an end within a head or behind a Rotate. A mount that names damage leaves the bytes of the binary log files
+//! as they were.
 //!
-//! [`law_one_log`]: one content of a disk stands for at most one log. [`law_files_go_on`]: the files of a
-//! longer log are those of the log, continued. [`law_end`]: the next entry begins where they end.
+//! Beside the entries the store keeps the end of the log in memory: its GTID set, and where the next entry
+//! begins. A truncation makes the end anew from the entries that stay, in time that grows with their number,
+//! and with the bytes of the set at each Rotate among them.
+//!
+//! [`law_one_log`]: one content of a disk stands for at most one log. [`law_undamaged`]: if it stands for one,
+//! it has no fault; [`law_one_fault`]: it has at most one. [`law_files_go_on`]: the files of a longer log are
+//! those of the log, continued. [`law_end`]: the next entry begins where they end.
 #![tactic(auto)]
 
+mod endings;
 mod ends;
 mod faults;
 mod files;
+mod heads;
 mod held;
 mod laws;
 mod log_sets;
+mod mounting;
+mod one_file;
 mod points;
 mod reading;
 mod stores;
 
 pub use faults::StoreFault;
-pub use laws::{law_end, law_files_go_on, law_one_log};
+pub use laws::{law_end, law_files_go_on, law_one_fault, law_one_log, law_undamaged};
 pub use points::LogPoint;
 pub use stores::BinlogStore;

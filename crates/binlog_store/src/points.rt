@@ -1,12 +1,14 @@
 //! Where a log ends, as its control file says it.
-ghost use Rattle.std.specs.Prelude.{◌≡◌, ◌^◌, ◌<◌, ◌++◌, IfOk, OnOk};
+ghost use Rattle.std.specs.Prelude.{◌≡◌, ◌^◌, ◌<◌, ◌++◌, IfOk, IfSome, OnOk};
+ghost use Rattle.binlog_store.specs.Damages as damage;
+ghost use Rattle.binlog_store.specs.Mounting.{IsNamed};
 ghost use Rattle.event_frame.specs.Forms.{body_of};
 ghost use Rattle.event_frame.specs.Reading.{Gives};
 ghost use Rattle.event_frame.specs.declared.field_readers.FieldFault.TheVariants as fault;
 ghost use Rattle.binlog_store.specs.Points.{point_bytes, point_form};
 
 use event_frame::{FieldFault, ended, u32_at, u64_at};
-use ring_types::{List, Memory};
+use ring_types::{LAST_FILE, List, Memory};
 use std::alloc::Global;
 
 /// Where a log ends on its disk: 24 bytes of `log.ctl`, each number with its lowest byte first.
@@ -64,4 +66,23 @@ pub(crate) fn point_of(bytes: &[u8]) -> Result<LogPoint, FieldFault>
         end,
         highest,
     })
+}
+
+/// Whether a log may end at the point: its last file has a number that files can have, and no greater one
+/// than the greatest so far.
+fn may_end(point: LogPoint) -> bool
+    ensures { result ≡ damage.may_end point }
+{
+    1 <= point.file && point.file <= point.highest && u64::from(point.highest) <= LAST_FILE
+}
+
+/// The point that the bytes of a control file name, if they name one at which a log may end.
+pub(crate) fn named_point(bytes: &[u8]) -> Option<LogPoint>
+    ensures is { result ≡ damage.point_in bytes.now }
+    ensures says { IfSome result (IsNamed bytes.now) }
+{
+    match point_of(bytes) {
+        Ok(point) if may_end(point) => Some(point),
+        _ => None,
+    }
 }

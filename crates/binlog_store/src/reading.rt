@@ -1,34 +1,42 @@
 //! Reading a log from its files: group by group, each behind those that were read.
-ghost use Rattle.std.specs.Prelude.{◌≡◌, ◌≤◌, true, IfOk, IsTrue, OnOk, length, take};
-ghost use Rattle.ring_types.specs.Logs.{IsLog};
+ghost use Rattle.std.specs.Prelude.{◌≡◌, ◌≢◌, ◌≤◌, ◌<◌, ◌-◌, ◌^◌, true, Err, IfErr, IfOk, IsTrue, OnErr, OnOk, length};
+ghost use Rattle.edge_traits.specs.FileStates.{Contents};
+ghost use Rattle.edge_traits.specs.declared.disks.FileId.TheVariants as id;
 ghost use Rattle.ring_types.specs.Rings.{is_schema};
-ghost use Rattle.binlog_store.specs.Following.{FollowsLog, IsNextGroup, IsWalked, fault_behind, read_fault};
-ghost use Rattle.binlog_store.specs.Held.{IsHeldLog};
+ghost use Rattle.binlog_store.specs.Following.{Fits, IfRefused, IsInside, IsWalked, ReadsNext, fault_behind, read_fault};
+ghost use Rattle.binlog_store.specs.Held.{IsHeldLog, IsNextFile};
+ghost use Rattle.binlog_store.specs.Longest.{Tells, begins_next, follows};
+ghost use Rattle.event_control.specs.ControlEvents.{opid_event_at};
 ghost use Rattle.binlog_store.specs.Stands.{IsWritten};
+ghost use Rattle.ring_types.specs.declared.limits.TheConstants.{TERM_END};
 ghost use Rattle.binlog_store.specs.declared.reading.ReadFault.TheVariants as fault;
 
 use crate::held::HeldLog;
 use entry_group::{EntryError, read_entry};
-use ring_types::{Entry, Schema, TERM_END, after, last};
+use event_control::read_opid;
+use ring_types::{Opid, Schema, TERM_END, after, last};
 use std::alloc::{AllocError, Global};
 
 /// Why bytes are not the next group of a log.
 #[derive(Clone, Copy)]
 pub(crate) enum ReadFault {
-    /// At this offset of the bytes begins the first event with which no group goes on.
-    NotNext { at: u64 },
+    /// At offset `group` of the bytes the next group is due, and at offset `at` begins the first event that
+    /// it does not have there.
+    NotNext { group: u64, at: u64 },
     /// Memory was wanting.
     Memory,
 }
 
 impl ReadFault {
-    /// The same fault, its offset counted from `begin` bytes further in front.
+    /// The same fault, its offsets counted from `begin` bytes further in front.
     fn behind(self, begin: u64) -> ReadFault
+        requires { Fits (2 ^ 64 - 1 - begin) self }
         ensures { result ≡ fault_behind begin self }
     {
         match self {
-            ReadFault::NotNext { at } => ReadFault::NotNext {
-                at: begin.saturating_add(at),
+            ReadFault::NotNext { group, at } => ReadFault::NotNext {
+                group: begin + group,
+                at: begin + at,
             },
             ReadFault::Memory => ReadFault::Memory,
         }
@@ -40,7 +48,7 @@ impl From<EntryError> for ReadFault {
 
     fn from(error: EntryError) -> Self {
         match error {
-            EntryError::NotAnEntry { at, .. } => ReadFault::NotNext { at },
+            EntryError::NotAnEntry { at, .. } => ReadFault::NotNext { group: 0, at },
             EntryError::Memory => ReadFault::Memory,
         }
     }
@@ -55,23 +63,31 @@ impl From<AllocError> for ReadFault {
 }
 
 impl HeldLog {
-    /// Whether an entry may come behind the log: its position is the next one, its term does not fall, and
-    /// the log is not at its greatest length.
-    fn may_follow(&self, entry: &Entry) -> bool
-        requires { IsLog self.now.entries }
-        ensures { IsTrue result → FollowsLog self.now.entries entry.now }
+    /// Whether an entry of this opid may come behind the log: its position is the next one, its term does
+    /// not fall, and the log is not at its greatest length.
+    fn may_follow(&self, opid: Opid) -> bool
+        requires { length self.now.entries < TERM_END }
+        ensures { result ≡ follows self.now.entries opid }
     {
         let last = last(self.entries.as_slice());
         let position = last.position + 1;
-        if position >= TERM_END {
-            return false;
+        opid.position == position && position < TERM_END && last.term <= opid.term
+    }
+
+    /// Whether these bytes of its last file begin with an opid event of an entry that may come behind the log.
+    fn begins_next(&self, bytes: &[u8]) -> bool
+        requires { length self.now.entries < TERM_END }
+        ensures { result ≡ begins_next self.now.entries (opid_event_at bytes.now self.now.end.place.at) }
+    {
+        match read_opid(bytes, self.end.place.at) {
+            Ok(event) => self.may_follow(event.opid),
+            Err(_) => false,
         }
-        entry.opid.position == position && last.term <= entry.opid.term
     }
 
     /// Reads the group behind the log from these bytes of its last file, adds its entry to the log, and tells
-    /// how many bytes it has. An error tells how far on the first event is with which no group goes on.
-    /// After `Memory` the log is given up.
+    /// how many bytes it has. Where no next group stands, the log stays as it was; after `Memory` it is given
+    /// up.
     pub(crate) fn read_next(
         &mut self,
         alloc: Global,
@@ -83,12 +99,14 @@ impl HeldLog {
         requires written { IsWritten schema.now self.old.entries }
         ensures held { OnOk result (IsHeldLog schema.now self.new) }
         ensures written { OnOk result (IsWritten schema.now self.new.entries) }
-        ensures there { IfOk result (λ it. IsNextGroup schema.now self.old.end.place self.old.entries bytes.now it self.new.entries) }
+        ensures within { IfOk result (λ it. (1 ≤ it) × (it ≤ length bytes.now)) }
+        ensures given { ReadsNext schema.now self.old.entries bytes.now self.old.end.place result self.new.entries }
+        ensures same { result ≢ Err fault.Memory → OnErr result (self.new ≡ self.old) }
     {
-        let read = read_entry(alloc, schema, bytes, self.end.place)?;
-        if !self.may_follow(&read.entry) {
-            return Err(ReadFault::NotNext { at: 0 });
+        if !self.begins_next(bytes) {
+            return Err(ReadFault::NotNext { group: 0, at: 0 });
         }
+        let read = read_entry(alloc, schema, bytes, self.end.place)?;
         let size = read.size;
         self.end.put(alloc, schema, &read.entry)?;
         self.entries.push(read.entry)?;
@@ -96,8 +114,8 @@ impl HeldLog {
     }
 
     /// Reads the groups of the file in which the log ends, of which these are the bytes, up to their end or
-    /// behind a Rotate; tells how many bytes of them it read. An error tells the offset of the first event
-    /// with which no group goes on. After `Memory` the log is given up.
+    /// behind a Rotate; tells how many bytes of them it read. Where a group is due that does not stand there,
+    /// the log has the entries before it; after `Memory` it is given up.
     pub(crate) fn read_groups(
         &mut self,
         alloc: Global,
@@ -107,19 +125,20 @@ impl HeldLog {
         requires schema { is_schema schema.now ≡ true }
         requires held { IsHeldLog schema.now self.old }
         requires written { IsWritten schema.now self.old.entries }
-        requires front { IsWalked schema.now self.old.entries self.old.entries (take self.old.end.place.at bytes.now) }
         requires long { self.old.end.place.at ≤ length bytes.now }
         ensures held { OnOk result (IsHeldLog schema.now self.new) }
         ensures written { OnOk result (IsWritten schema.now self.new.entries) }
-        ensures walked { IfOk result (λ it. IsWalked schema.now self.old.entries self.new.entries (take it bytes.now)) }
         ensures within { IfOk result (λ it. it ≤ length bytes.now) }
-        ensures all { IfOk result (λ it. self.new.end.place.file ≡ self.old.end.place.file → it ≡ length bytes.now) }
+        ensures on { IfOk result (λ it. self.new.end.place.file ≡ self.old.end.place.file → (it ≡ length bytes.now) × (self.new.end.place.at ≡ it)) }
+        ensures next { OnOk result (self.new.end.place.file ≢ self.old.end.place.file → IsNextFile self.old.end.place self.new) }
+        ensures walked { (c : Contents) → c (id.Binlog self.old.end.place.file) ≡ bytes.now → Tells schema.now c self.old.entries → IfOk result (λ it. IsWalked schema.now c self.old.end.place.file self.new.entries it) }
+        ensures refused { (c : Contents) → c (id.Binlog self.old.end.place.file) ≡ bytes.now → Tells schema.now c self.old.entries → IfRefused schema.now c self.old.end.place.file self.new.entries result }
+        ensures sizes { IfErr result (IsInside (length bytes.now)) }
     {
         let number = self.end.place.file;
         let mut at = self.end.place.at;
         while self.end.place.file == number && at < bytes.len() as u64 {
-            let rest = after(bytes, at);
-            match self.read_next(alloc, schema, rest) {
+            match self.read_next(alloc, schema, after(bytes, at)) {
                 Ok(size) => at += size,
                 Err(fault) => return Err(fault.behind(at)),
             }

@@ -2,7 +2,7 @@
 ghost use Rattle.std.specs.Prelude.{◌≡◌, ◌≤◌, ◌++◌, ◌+◌, [], true, OnOk, Some, length, take, ℕ, ◌<◌, max, Ok};
 ghost use Rattle.ring_types.specs.Gtids.{gtids};
 ghost use Rattle.ring_types.specs.declared.schemas.Schema.{Schema};
-ghost use Rattle.ring_types.specs.Logs.{rotates};
+ghost use Rattle.ring_types.specs.Logs.{entry_at, rotates};
 ghost use Rattle.ring_types.specs.Rings.{is_schema};
 ghost use Rattle.edge_traits.specs.Moments.{AtEachMoment};
 ghost use Rattle.edge_traits.specs.Works.{HoldsOn, Switches};
@@ -50,6 +50,15 @@ impl BinlogStore {
         ensures { result.now ≡ log_of self.now }
     {
         self.held.entries.as_slice()
+    }
+
+    /// The entry at a position, counted from 1, lent.
+    pub fn entry(&self, position: u64) -> &Entry
+        requires first { 1 ≤ position }
+        requires within { position ≤ length (log_of self.now) }
+        ensures { entry_at (log_of self.now) position ≡ Some result.now }
+    {
+        &self.held.entries.as_slice()[position as usize - 1]
     }
 
     /// The transactions of the log.
