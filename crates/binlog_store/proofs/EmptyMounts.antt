@@ -1,5 +1,5 @@
 -- While the first file of an empty log is written, the control file still says that the log is empty.
-use Rattle.std.proofs.Common.{◌≡◌, ◌≢◌, ℕ, ◌≤◌, ◌⊎◌, inl, inr, Bool, true, false, List, [], ◌∷◌, ◌++◌, length, Some, None, refl, sym, ap, subst, ◌∙◌, arith, append-nil}
+use Rattle.std.proofs.Common.{◌≡◌, ◌≢◌, ℕ, ◌≤◌, ◌⊎◌, inl, inr, Bool, true, false, List, [], ◌∷◌, ◌++◌, length, Some, None, refl, sym, ap, ◌∙◌, arith, append-nil}
 use Rattle.std.specs.Prelude.{nat_le, if◌then◌else◌}
 use Rattle.std.proofs.lemmas.Bool.Decides.{nat_tests}
 use Rattle.event_frame.specs.declared.frames.TheConstants.{MOST_BODY_BYTES}
@@ -9,7 +9,7 @@ use Rattle.ring_types.specs.declared.gtid_sets.ServerSet.{ServerSet}
 use Rattle.ring_types.specs.declared.schemas.Schema.{Schema}
 use Rattle.edge_traits.specs.FileStates.{Contents, Files, MayLeave, settled}
 use Rattle.edge_traits.specs.Moments.{AtEachMoment, LeavesAt}
-use Rattle.edge_traits.specs.Works.{MayOut}
+use Rattle.edge_traits.specs.Works.{IsTelling, MayOut, telling}
 use Rattle.edge_traits.specs.declared.disks.FileId.{FileId}
 use Rattle.edge_traits.specs.declared.disks.FileId.TheVariants as file
 use Rattle.control_block.specs.Blocks.{Stands}
@@ -21,8 +21,7 @@ use Rattle.entry_group.proofs.OneLog.{files_have_sizes}
 use Rattle.binlog_store.specs.Files.{IsAny}
 use Rattle.binlog_store.specs.Groups.{log_files}
 use Rattle.binlog_store.specs.Mounted.{AreHeld, IsSaid}
-use Rattle.binlog_store.specs.Mounting.{Keeps}
-use Rattle.binlog_store.specs.Stands.{LogRead, LogStands}
+use Rattle.binlog_store.specs.Mounting.{Keeps, ReadsAsLeft}
 use Rattle.binlog_store.proofs.HeldFiles.{settled_held}
 use Rattle.binlog_store.proofs.LogSets.{short_set}
 use Rattle.binlog_store.proofs.Telling.{written_none}
@@ -58,11 +57,11 @@ held_empty schema on bytes there is =
     let made : bytes ≡ head_after [] ++ [] = is ∙ sym (append-nil (head_after [])) in
     settled_held on 1 (head_after [] ++ []) [] (there ∙ ap settled made) tt
 
--- ---- the control file says it all the while
-module _ {D : Type 0} (files : D → Files) (moment : D → ℕ) (left_since : D → ℕ → Contents → Type 0) (schema : Schema) where
-  pub keeps_empty : {a b : D} (block : ControlBlock) → block.bytes ≡ None → Stands block (files a file.LogCtl)
-      → AtEachMoment files moment left_since (file.Binlog 1) a b IsAny → Keeps schema files moment left_since a b
-  keeps_empty {a = a} {b = b} block none stands run log held = record {
+-- ---- the control file says all the while that there are no bytes
+module _ {D : Type 0} (files : D → Files) (moment : D → ℕ) (left_since : D → ℕ → Contents → Type 0) where
+  pub keeps_empty : {a b : D} → IsTelling (telling files moment left_since a) → (block : ControlBlock) → block.bytes ≡ None → Stands block (files a file.LogCtl)
+      → AtEachMoment files moment left_since (file.Binlog 1) a b IsAny → Keeps files moment left_since a b
+  keeps_empty {a = a} {b = b} tells block none stands run = record {
     crash = record { later = run.moments.later; before = λ t c early left. turn t c (run.moments.each t c early left) };
     others = λ other out. run.elsewhere other (apart other out);
   }
@@ -73,12 +72,16 @@ module _ {D : Type 0} (files : D → Files) (moment : D → ℕ) (left_since : D
       said : control_of (files a file.LogCtl).bytes ≡ Some None
       said = stands_for block (files a file.LogCtl) stands ∙ ap Some none
 
-      empty : log ≡ []
-      empty = subst (LogRead schema log (λ f. (files a f).bytes)) said held.read
+      still : (c : Contents) → MayLeave (files a file.LogCtl) (c file.LogCtl) → ReadsAsLeft (files a) c
+      still c may = record {
+        left = λ f. (files a f).bytes;
+        may = λ f mine. tells.read f;
+        alike = record {
+          control = said ∙ sym (stands_left block (files a file.LogCtl) stands (c file.LogCtl) may ∙ ap Some none);
+          files = λ bytes p says named n one. absurd (let z : Some (Some bytes) ≡ Some None = sym says ∙ said in cc);
+        };
+      }
 
-      still : (c : Contents) → MayLeave (files a file.LogCtl) (c file.LogCtl) → LogStands schema log c
-      still c may = subst (LogRead schema log c) (sym (stands_left block (files a file.LogCtl) stands (c file.LogCtl) may ∙ ap Some none)) empty
-
-      turn : (t : ℕ) (c : Contents) → (left_since a t c ⊎ LeavesAt (file.Binlog 1) (files a) IsAny c) → left_since a t c ⊎ (LogStands schema log c × MayOut log_files (files a) c)
+      turn : (t : ℕ) (c : Contents) → (left_since a t c ⊎ LeavesAt (file.Binlog 1) (files a) IsAny c) → left_since a t c ⊎ (ReadsAsLeft (files a) c × MayOut log_files (files a) c)
       turn t c (inl past) = inl past
       turn t c (inr at) = inr (still c (at.elsewhere file.LogCtl (λ is. cc)), λ other out. at.elsewhere other (apart other out))

@@ -36,3 +36,4 @@ pub mod EmptyMounts
 pub mod NamedPoints
 pub mod LogMounts
 pub mod WholeMounts
+pub mod OfLog

@@ -1,36 +1,36 @@
 -- A log that was read up to its point stands there: its files are synced with more behind it, and that is cut off.
-use Rattle.std.proofs.Common.{◌≡◌, true, ℕ, suc, ◌+◌, ◌<◌, ◌≤◌, List, [], ◌∷◌, ◌++◌, length, take, drop, Option, Some, None, refl, sym, ap, subst, ◌∙◌, arith, length-take, take-append-drop}
+use Rattle.std.proofs.Common.{◌≡◌, Bool, true, false, ℕ, suc, ◌+◌, ◌<◌, ◌≤◌, List, [], ◌∷◌, ◌++◌, length, take, drop, Option, Some, None, refl, sym, ap, subst, ◌∙◌, arith, length-take, take-append-drop}
 use Rattle.std.proofs.lemmas.List.{take_all}
-use Rattle.std.specs.Prelude.{nat_lt}
+use Rattle.std.specs.Prelude.{◌==◌, if◌then◌else◌, nat_lt}
+use Rattle.std.proofs.lemmas.Bool.Decides.{nat_tests}
 use Rattle.ring_types.proofs.Booleans.{lt_true}
-use Rattle.ring_types.specs.declared.entries.Entry.{Entry}
 use Rattle.ring_types.specs.declared.schemas.Schema.{Schema}
-use Rattle.edge_traits.specs.FileStates.{Contents, Files, Firm, MayLeave, settled, shortened}
-use Rattle.edge_traits.specs.Works.{Holds, Telling, Works, seen}
+use Rattle.edge_traits.specs.FileStates.{Contents, FileState, Files, Firm, MayLeave, settled, shortened}
+use Rattle.edge_traits.specs.Works.{IsTelling, MayOut, Telling, Works, seen}
 use Rattle.edge_traits.specs.declared.disks.FileId.TheVariants as file
+use Rattle.edge_traits.proofs.FileStates.{settled_only}
 use Rattle.control_block.specs.Blocks.{Stands}
 use Rattle.control_block.specs.declared.blocks.ControlBlock.{ControlBlock}
-use Rattle.control_block.proofs.Mounted.{stands_for}
+use Rattle.control_block.proofs.Mounted.{stands_for, stands_left}
 use Rattle.entry_group.specs.Files.{files}
 use Rattle.binlog_store.specs.Added.{continued}
-use Rattle.binlog_store.specs.Damages.{before_end}
+use Rattle.binlog_store.specs.Damages.{before_end, point_in}
 use Rattle.binlog_store.specs.Files.{LeavesFront, from_file}
 use Rattle.binlog_store.specs.Groups.{log_files}
 use Rattle.binlog_store.specs.Held.{EndsThere, IsHeldLog}
 use Rattle.binlog_store.specs.Mounted.{AreHeld, IsSaid}
 use Rattle.binlog_store.specs.Following.{IsAll}
-use Rattle.binlog_store.specs.Mounting.{AreRead, HaveTheirBytes, IsSeen, Names}
+use Rattle.binlog_store.specs.Mounting.{AreRead, HaveTheirBytes, IsSeen, Names, ReadAlike, ReadsAsLeft}
 use Rattle.binlog_store.specs.Points.{point_bytes}
-use Rattle.binlog_store.specs.Stands.{IsWritten, LogStands, PointFits, ReadsFiles, last_length, point_at}
+use Rattle.binlog_store.specs.Stands.{IsWritten, PointFits, ReadsFiles, last_length, point_at}
 use Rattle.binlog_store.specs.declared.held.HeldLog.{HeldLog}
 use Rattle.binlog_store.specs.declared.points.LogPoint.{LogPoint}
 use Rattle.binlog_store.proofs.HeldFiles.{held_join, settled_held}
 use Rattle.binlog_store.proofs.LastFiles.{shown_last}
 use Rattle.binlog_store.proofs.LogEnds.{file_there}
 use Rattle.binlog_store.proofs.NextPlaces.{some_files}
-use Rattle.binlog_store.proofs.OneContent.{one_log_at_most}
-use Rattle.binlog_store.proofs.Phases.{said_stands, write_phase}
-use Rattle.binlog_store.proofs.Truncating.{front_firm, front_reads, held_cut}
+use Rattle.binlog_store.proofs.Phases.{below, files_within, works_beside}
+use Rattle.binlog_store.proofs.Truncating.{front_firm, held_cut}
 
 -- ---- the point
 point_is : (schema : Schema) (held : HeldLog) (p : LogPoint) → IsHeldLog schema held → EndsThere p held → point_at held.entries (files schema held.entries) p.highest ≡ p
@@ -134,23 +134,52 @@ module _ (schema : Schema) (p : LogPoint) (held : HeldLog) (on : Files) (x : IsT
   pub end_firm : Firm p.end (on (file.Binlog p.file))
   end_firm = front_firm on behind some 1 p.file p.end first others count ended all_held
 
-  pub still_read : (c : Contents) → ((m : ℕ) → m < p.file → MayLeave (on (file.Binlog m)) (c (file.Binlog m)))
-      → take p.end (c (file.Binlog p.file)) ≡ take p.end (on (file.Binlog p.file)).bytes → ReadsFiles c 1 (files schema held.entries)
-  still_read c may front = subst (ReadsFiles c 1) (sym made) (front_reads on behind some c 1 p.file p.end first others count ended all_held may front)
-
   pub cut_held : (new : Files) → ((m : ℕ) → m < p.file → new (file.Binlog m) ≡ on (file.Binlog m)) → new (file.Binlog p.file) ≡ shortened p.end (on (file.Binlog p.file))
       → AreHeld new 1 (files schema held.entries)
   cut_held new same cut = subst (AreHeld new 1) (sym made) (held_cut on behind some new 1 p.file p.end first others count ended all_held same cut)
 
--- while it is cut, the log is read
-module _ (schema : Schema) (log : List Entry) (highest : ℕ) (block : ControlBlock) (said : IsSaid schema log highest block.bytes) (a b : Telling)
-    (stands : Stands block (a.files file.LogCtl)) (read : ReadsFiles (seen a) 1 (files schema log)) where
-  log_there : LogStands schema log (seen a)
-  log_there = said_stands schema log highest block.bytes (seen a) said read (stands_for block (a.files file.LogCtl) stands)
+-- ---- while it is cut, what a crash leaves reads like what was read
+shown_same : (p : LogPoint) (b c : Contents) → ((m : ℕ) → 1 ≤ m → m < p.file → b (file.Binlog m) ≡ c (file.Binlog m))
+    → take p.end (b (file.Binlog p.file)) ≡ take p.end (c (file.Binlog p.file)) → (n : ℕ) → 1 ≤ n → before_end p b (file.Binlog n) ≡ before_end p c (file.Binlog n)
+shown_same p b c before last n one = go (nat_lt n p.file) (n == p.file) refl refl
+  where
+    go : (less same : Bool) → nat_lt n p.file ≡ less → (n == p.file) ≡ same
+        → (if less then b (file.Binlog n) else if same then take p.end (b (file.Binlog n)) else [])
+        ≡ (if less then c (file.Binlog n) else if same then take p.end (c (file.Binlog n)) else [])
+    go true same lower own = before n one (grind (arith, nat_tests, lower))
+    go false true lower own =
+        let is : n ≡ p.file = grind (arith, nat_tests, own) in
+        subst (λ (m : ℕ). take p.end (b (file.Binlog m)) ≡ take p.end (c (file.Binlog m))) (sym is) last
+    go false false lower own = refl
 
-  pub cut_keeps : (k at : ℕ) (bytes : List ℕ)
-      → ((c : Contents) → ((m : ℕ) → m < k → MayLeave (a.files (file.Binlog m)) (c (file.Binlog m))) → LeavesFront k at bytes c → ReadsFiles c 1 (files schema log))
-      → Works (from_file k) a b (LeavesFront k at bytes) → (other : List Entry) → Holds log_files a (LogStands schema other) → Works log_files a b (LogStands schema other)
-  cut_keeps k at bytes reads works other held =
-      subst (λ (l : List Entry). Works log_files a b (LogStands schema l)) (one_log_at_most schema (seen a) log other log_there held.read)
-      (write_phase schema log highest block said a b k (LeavesFront k at bytes) stands reads works)
+names_one : (said : Option (List ℕ)) (bytes : List ℕ) (p q : LogPoint) → Names said p → Some said ≡ Some (Some bytes) → point_in bytes ≡ Some q → p ≡ q
+names_one None bytes p q names is named = absurd names
+names_one (Some said) bytes p q names is named =
+    let same : said ≡ bytes = cc in
+    let one : Some p ≡ Some q = sym names.named ∙ (ap point_in same ∙ named) in
+    cc
+
+module _ (p : LogPoint) (block : ControlBlock) (names : Names block.bytes p) (a b : Telling) (stands : Stands block (a.files file.LogCtl))
+    (synced : (m : ℕ) → 1 ≤ m → m ≤ p.file → a.files (file.Binlog m) ≡ settled (a.files (file.Binlog m)).bytes) where
+  abbrev front : Contents → Type 0
+  front = LeavesFront p.file p.end (take p.end (a.files (file.Binlog p.file)).bytes)
+
+  left_below : (c : Contents) → MayOut (from_file p.file) a.files c → (m : ℕ) → 1 ≤ m → m < p.file → seen a (file.Binlog m) ≡ c (file.Binlog m)
+  left_below c out m one less =
+      sym (settled_only (a.files (file.Binlog m)).bytes (c (file.Binlog m))
+      (subst (λ (f : FileState). MayLeave f (c (file.Binlog m))) (synced m one (omega (arith, less))) (out (file.Binlog m) (below p.file m less))))
+
+  cut_alike : (c : Contents) → front c → MayOut (from_file p.file) a.files c → ReadAlike (seen a) c
+  cut_alike c begins out =
+      let control = stands_for block (a.files file.LogCtl) stands in
+      record {
+        control = control ∙ sym (stands_left block (a.files file.LogCtl) stands (c file.LogCtl) (out file.LogCtl refl));
+        files = λ bytes q says named n one.
+            subst (λ (r : LogPoint). before_end r (seen a) (file.Binlog n) ≡ before_end r c (file.Binlog n)) (names_one block.bytes bytes p q names (sym control ∙ says) named)
+            (shown_same p (seen a) c (left_below c out) (sym begins) n one);
+      }
+
+  pub cut_keeps : IsTelling a → Works (from_file p.file) a b front → Works log_files a b (ReadsAsLeft a.files)
+  cut_keeps tells works =
+      works_beside (from_file p.file) log_files a b front (ReadsAsLeft a.files) (files_within p.file)
+      (λ c begins out. record { left = seen a; may = λ f mine. tells.read f; alike = cut_alike c begins out }) works

@@ -1,5 +1,5 @@
 -- The next entry of a log begins where its files end: in the last of them, behind its bytes.
-use Rattle.std.proofs.Common.{◌≡◌, ℕ, suc, ◌+◌, ◌%◌, ◌^◌, List, [], ◌∷◌, ◌++◌, length, refl, sym, ap, ap₂, ◌∙◌, arith}
+use Rattle.std.proofs.Common.{◌≡◌, ℕ, suc, ◌+◌, ◌%◌, ◌^◌, ◌≤◌, List, [], ◌∷◌, ◌++◌, length, refl, sym, ap, ap₂, subst, ◌∙◌, arith}
 use Rattle.std.proofs.lemmas.List.{length-append}
 use Rattle.ring_types.specs.declared.entries.Entry.{Entry}
 use Rattle.ring_types.specs.declared.entries.Payload.{Payload}
@@ -132,3 +132,31 @@ end_grows schema log e p at is here next =
     next
     ∙ (ap (λ (n : ℕ). reach n (files_from schema p log (e ∷ []))) here
     ∙ (ap (λ (q : Place). reach (last_length (files schema log)) (files_from schema q log (e ∷ []))) is ∙ sym (last_reached schema log (e ∷ []))))
+
+-- ---- a last file has its head at least
+placed_reach : (q : Payload) (text f : List ℕ) (before : List Entry) (rest : List (List ℕ)) (at : ℕ) → 1 ≤ at → ((to : ℕ) → 1 ≤ to → 1 ≤ reach to (f ∷ rest))
+    → 1 ≤ reach at (placed q text before (f ∷ rest))
+placed_reach payload.NoOp text f before rest at some later = omega (arith, onto_reach at text f rest, later (at + length text) (omega (arith, some)))
+placed_reach payload.Rotate text f before rest at some later = omega (arith, onto_last (head_after before) f rest, later (length (head_after before)) (omega arith))
+placed_reach (payload.Txn t) text f before rest at some later = omega (arith, onto_reach at text f rest, later (at + length text) (omega (arith, some)))
+
+some_reach : (schema : Schema) (p : Place) (before log : List Entry) (at : ℕ) → 1 ≤ at → 1 ≤ reach at (files_from schema p before log)
+some_reach schema p before [] at some = omega (arith, some)
+some_reach schema p before (e ∷ log) at some =
+    let next = place_behind schema before e p in
+    let made = some_file schema next (before ++ e ∷ []) log in
+    let later : (to : ℕ) → 1 ≤ to → 1 ≤ reach to (made.0 ∷ made.1) =
+    λ to one. subst (λ (z : List (List ℕ)). 1 ≤ reach to z) made.2 (some_reach schema next (before ++ e ∷ []) log to one) in
+    subst (λ (z : List (List ℕ)). 1 ≤ reach at (placed e.payload (group schema e p) before z)) (sym made.2)
+    (placed_reach e.payload (group schema e p) made.0 before made.1 at some later)
+
+pub last_some : (schema : Schema) (log : List Entry) → 1 ≤ last_length (files schema log)
+unfolding files
+last_some schema log =
+    let made = some_file schema first_place [] log in
+    subst (λ (z : List (List ℕ)). 1 ≤ last_length (onto (head_after []) z)) (sym made.2)
+    (omega (
+      arith,
+      onto_last (head_after []) made.0 made.1,
+      subst (λ (z : List (List ℕ)). 1 ≤ reach (length (head_after [])) z) made.2 (some_reach schema first_place [] log (length (head_after [])) (omega arith)),
+    ))

@@ -26,7 +26,7 @@ said_stands schema log highest None c said read is = rw is said.says
 said_stands schema log highest (Some bytes) c said read is = rw is (record { highest = highest; point = said.says; point_fits = said.fits; written = said.written; read = read })
 
 -- ---- a call that works on some of the files, beside what the others hold
-works_beside : (own more : Group) (a b : Telling) (P Q : Contents → Type 0) → AreWithin own more → ((c : Contents) → P c → MayOut own a.files c → Q c)
+pub works_beside : (own more : Group) (a b : Telling) (P Q : Contents → Type 0) → AreWithin own more → ((c : Contents) → P c → MayOut own a.files c → Q c)
     → Works own a b P
     → Works more a b Q
 works_beside own more a b P Q within told x = record {

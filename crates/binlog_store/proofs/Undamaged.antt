@@ -84,7 +84,7 @@ module _ (p : LogPoint) (c : Contents) where
       let same : (p.file == p.file) ≡ true = eq-eqb p.file p.file refl in
       rw (least, same) refl
 
-  cut_reads : (n : ℕ) (written : List (List ℕ)) → n + length written ≡ suc p.file → last_length written ≡ p.end → ReadsFiles c n written
+  pub cut_reads : (n : ℕ) (written : List (List ℕ)) → n + length written ≡ suc p.file → last_length written ≡ p.end → ReadsFiles c n written
       → ReadsFiles (before_end p c) n written
   cut_reads n [] at ends read = read
   cut_reads n (f ∷ []) at ends read =
@@ -94,7 +94,7 @@ module _ (p : LogPoint) (c : Contents) where
   cut_reads n (f ∷ (g ∷ more)) at ends read =
       (before_last n (omega (arith, at)) ∙ read.0, cut_reads (suc n) (g ∷ more) (omega (arith, at)) ends read.1)
 
-  reaches : (n : ℕ) (written : List (List ℕ)) → n + length written ≡ suc p.file → ReadsFiles c n written
+  pub reaches : (n : ℕ) (written : List (List ℕ)) → n + length written ≡ suc p.file → ReadsFiles c n written
       → last_length written ≤ length (c (file.Binlog p.file))
   reaches n [] at read = absurd read
   reaches n (f ∷ []) at read =
@@ -123,7 +123,7 @@ module _ (schema : Schema) (c : Contents) (log : List Entry) (bytes : List ℕ) 
       let three : nat_le ends.highest LAST_FILE ≡ true = grind (arith, nat_tests) in
       rw (one, two, three) refl
 
-  point_named : point_in bytes ≡ Some ends
+  pub point_named : point_in bytes ≡ Some ends
   point_named =
       let read = spelled_is_body Cut point_form (point_bytes ends) ends point_fields (point_spelled ends held.point_fits) in
       ap named (ap (body_of Cut point_form) held.point ∙ read) ∙ rw may refl

@@ -43,4 +43,4 @@ pub files_fault : (schema : Schema) (c : Contents) (bytes : Option (List ℕ)) (
     → PointTold bytes (Ok (Some p)) → (f : FileId) (at : ℕ) → FilesFault schema p c f at → LogFault schema c f at
 files_fault schema c None p says told f at fault = absurd (let z : Ok (Some p) ≡ Ok None = told in cc)
 files_fault schema c (Some bytes) p says told f at fault =
-    subst (ControlFault schema c f at) (sym says) (subst (PointFault schema c f at) (sym told.0) fault)
+    subst (ControlFault schema c f at) (sym says) (subst (PointFault schema c f at) (sym told.named) fault)

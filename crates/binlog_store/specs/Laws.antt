@@ -7,6 +7,7 @@ use Rattle.edge_traits.specs.declared.disks.FileId.{FileId}
 use Rattle.entry_group.specs.Files.{files}
 use Rattle.binlog_store.specs.Added.{end_of}
 use Rattle.binlog_store.specs.Damages.{LogFault}
+use Rattle.binlog_store.specs.Mounting.{IsOfLog}
 use Rattle.binlog_store.specs.Stands.{LogStands, last_length}
 
 abbrev pub OneLogAtMost : Type 0
@@ -25,3 +26,8 @@ StandsUndamaged =
 abbrev pub OneFaultAtMost : Type 0
 OneFaultAtMost =
     (schema : Schema) (c : Contents) (f g : FileId) (at to : ℕ) → LogFault schema c f at → LogFault schema c g to → (f ≡ g) × (at ≡ to)
+
+-- contents that read alike stand for the same log, and have the same fault
+pub record AreOfLog : Type 0 where
+  pub log : (schema : Schema) (log : List Entry) → IsOfLog (LogStands schema log)
+  pub fault : (schema : Schema) (f : FileId) (at : ℕ) → IsOfLog (λ c. LogFault schema c f at)

@@ -1,5 +1,5 @@
 ghost use Rattle.binlog_store.specs.Added.{FilesGoOn};
-ghost use Rattle.binlog_store.specs.Laws.{NextBeginsAtTheEnd, OneFaultAtMost, OneLogAtMost, StandsUndamaged};
+ghost use Rattle.binlog_store.specs.Laws.{AreOfLog, NextBeginsAtTheEnd, OneFaultAtMost, OneLogAtMost, StandsUndamaged};
 
 /// A content of a disk stands for one log at most.
 pub fn law_one_log()
@@ -26,4 +26,10 @@ pub fn law_undamaged()
 /// A content is damaged in one file at most, at one offset.
 pub fn law_one_fault()
     ensures { OneFaultAtMost }
+{}
+
+/// Contents that read alike stand for the same log, and are damaged in the same file at the same offset. So
+/// what a mount leaves at each moment, by its clause `crash`, is the log or the damage that the disk held.
+pub fn law_of_log()
+    ensures { AreOfLog }
 {}

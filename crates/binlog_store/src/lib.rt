@@ -12,7 +12,9 @@
 //! of the first event with which no log goes on ([`StoreFault::Damaged`]): behind the longest log whose files
 //! they begin with. Of `log.ctl` the offset is 0: its own bytes are at fault, or they name another length, or
 //! an end within a head or behind a Rotate. A mount that names damage leaves the bytes of the binary log files
-//! as they were.
+//! as they were. Whatever it answers, at each moment of it a crash leaves files that read, as far as the control
+//! file says, like some that it might have left before: the same log, the same damage, or, after an append that
+//! failed, still the old log or the new. So a mount may be tried again.
 //!
 //! Beside the entries the store keeps the end of the log in memory: its GTID set, and where the next entry
 //! begins. A truncation makes the end anew from the entries that stay, in time that grows with their number,
@@ -20,7 +22,8 @@
 //!
 //! [`law_one_log`]: one content of a disk stands for at most one log. [`law_undamaged`]: if it stands for one,
 //! it has no fault; [`law_one_fault`]: it has at most one. [`law_files_go_on`]: the files of a longer log are
-//! those of the log, continued. [`law_end`]: the next entry begins where they end.
+//! those of the log, continued. [`law_end`]: the next entry begins where they end. [`law_of_log`]: contents that
+//! read alike stand for one log, or have one fault.
 #![tactic(auto)]
 
 mod endings;
@@ -38,6 +41,6 @@ mod reading;
 mod stores;
 
 pub use faults::StoreFault;
-pub use laws::{law_end, law_files_go_on, law_one_fault, law_one_log, law_undamaged};
+pub use laws::{law_end, law_files_go_on, law_of_log, law_one_fault, law_one_log, law_undamaged};
 pub use points::LogPoint;
 pub use stores::BinlogStore;

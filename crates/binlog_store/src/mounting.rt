@@ -38,7 +38,7 @@ fn mount_control<D: Disk>(alloc: Global, disk: &mut D) -> Result<ControlBlock, S
     ensures file { IfOk result (λ it. it.file ≡ id.LogCtl) }
     ensures damaged { D.tells disk.old ≡ true → IfDamaged (λ f at. (f ≡ id.LogCtl) × (at ≡ 0) × (control_of (D.files disk.old id.LogCtl).bytes ≡ None)) result }
     ensures elsewhere { D.tells disk.old ≡ true → Elsewhere id.LogCtl (D.files disk.old) (D.files disk.new) }
-    ensures keeps { D.tells disk.old ≡ true → (schema : Schema) → Keeps schema D.files D.moment D.left_since disk.old disk.new }
+    ensures keeps { D.tells disk.old ≡ true → Keeps D.files D.moment D.left_since disk.old disk.new }
     ensures story { D.story disk.new ≡ D.story disk.old }
     ensures tells { D.tells disk.new ≡ D.tells disk.old }
     ensures later { D.faults disk.old ≤ D.faults disk.new }
@@ -93,7 +93,7 @@ fn read_next_file<D: Disk>(
     ensures damaged { D.tells disk.old ≡ true → (c : Contents) (n : ℕ) → c (id.Binlog (n + 1)) ≡ (D.files disk.old (id.Binlog (n + 1))).bytes → held.old.end.place.file ≡ n + 1 → IsBegun schema.now (before_end point c) n held.old.entries → IfDamaged (FilesFault schema.now point c) result }
     ensures read { D.tells disk.old ≡ true → IfRead (D.files disk.new (id.Binlog held.old.end.place.file) ≡ settled (D.files disk.old (id.Binlog held.old.end.place.file)).bytes) result }
     ensures elsewhere { D.tells disk.old ≡ true → Elsewhere (id.Binlog held.old.end.place.file) (D.files disk.old) (D.files disk.new) }
-    ensures keeps { D.tells disk.old ≡ true → Keeps schema.now D.files D.moment D.left_since disk.old disk.new }
+    ensures keeps { D.tells disk.old ≡ true → Keeps D.files D.moment D.left_since disk.old disk.new }
     ensures story { D.story disk.new ≡ D.story disk.old }
     ensures tells { D.tells disk.new ≡ D.tells disk.old }
     ensures later { D.faults disk.old ≤ D.faults disk.new }
@@ -123,7 +123,7 @@ fn read_log<D: Disk>(
     ensures read { D.tells disk.old ≡ true → OnOk result (AreRead (point.file + 1) (D.files disk.old) (D.files disk.new)) }
     ensures same { D.tells disk.old ≡ true → IfRead (HaveTheirBytes (D.files disk.old) (D.files disk.new)) result }
     ensures control { D.tells disk.old ≡ true → D.files disk.new id.LogCtl ≡ D.files disk.old id.LogCtl }
-    ensures keeps { D.tells disk.old ≡ true → Keeps schema.now D.files D.moment D.left_since disk.old disk.new }
+    ensures keeps { D.tells disk.old ≡ true → Keeps D.files D.moment D.left_since disk.old disk.new }
     ensures story { D.story disk.new ≡ D.story disk.old }
     ensures tells { D.tells disk.new ≡ D.tells disk.old }
     ensures later { D.faults disk.old ≤ D.faults disk.new }
@@ -151,7 +151,7 @@ fn mount_empty<D: Disk>(
     ensures control { IfOk result (λ it. it.control ≡ control) }
     ensures highest { IfOk result (λ it. it.highest ≡ 1) }
     ensures mounted { D.tells disk.old ≡ true → IfOk result (λ it. (schema : Schema) → IsMounted schema it (D.files disk.new)) }
-    ensures keeps { D.tells disk.old ≡ true → (schema : Schema) → Keeps schema D.files D.moment D.left_since disk.old disk.new }
+    ensures keeps { D.tells disk.old ≡ true → Keeps D.files D.moment D.left_since disk.old disk.new }
     ensures story { D.story disk.new ≡ D.story disk.old }
     ensures tells { D.tells disk.new ≡ D.tells disk.old }
     ensures later { D.faults disk.old ≤ D.faults disk.new }
@@ -187,7 +187,7 @@ fn mount_log<D: Disk>(
     ensures above { D.tells disk.old ≡ true → IfOk result (λ it. (n : ℕ) → rotates (log_of it) + 1 < n → n ≤ it.highest → (D.files disk.new (id.Binlog n)).bytes ≡ []) }
     ensures damaged { D.tells disk.old ≡ true → (c : Contents) → IsSeen c (D.files disk.old) → IfDamaged (FilesFault schema.now point c) result }
     ensures same { D.tells disk.old ≡ true → IfDamaged (λ f at. HaveTheirBytes (D.files disk.old) (D.files disk.new)) result }
-    ensures keeps { D.tells disk.old ≡ true → Keeps schema.now D.files D.moment D.left_since disk.old disk.new }
+    ensures keeps { D.tells disk.old ≡ true → Keeps D.files D.moment D.left_since disk.old disk.new }
     ensures story { D.story disk.new ≡ D.story disk.old }
     ensures tells { D.tells disk.new ≡ D.tells disk.old }
     ensures later { D.faults disk.old ≤ D.faults disk.new }
@@ -219,7 +219,7 @@ impl BinlogStore {
         ensures mounted { D.tells disk.old ≡ true → IfOk result (λ it. IsMounted schema.now it (D.files disk.new)) }
         ensures holds { D.tells disk.old ≡ true → IfOk result (λ it. HoldsOn log_files D.files D.moment D.left_since disk.new (LogStands schema.now (log_of it))) }
         ensures above { D.tells disk.old ≡ true → IfOk result (λ it. (n : ℕ) → rotates (log_of it) + 1 < n → n ≤ it.highest → (D.files disk.new (id.Binlog n)).bytes ≡ []) }
-        ensures crash { D.tells disk.old ≡ true → Keeps schema.now D.files D.moment D.left_since disk.old disk.new }
+        ensures crash { D.tells disk.old ≡ true → Keeps D.files D.moment D.left_since disk.old disk.new }
         ensures damaged { D.tells disk.old ≡ true → IfDamaged (LogFault schema.now (seen_of (D.files disk.old))) result }
         ensures kept { D.tells disk.old ≡ true → IfDamaged (λ f at. HaveTheirBytes (D.files disk.old) (D.files disk.new)) result }
         ensures story { D.story disk.new ≡ D.story disk.old }

@@ -1,5 +1,6 @@
 use Rattle.std.proofs.Common.{List, None, Option, ℕ, sym, ap, subst, ◌∙◌}
 use Rattle.edge_traits.specs.declared.disks.FileId.TheVariants as id
+use Rattle.edge_traits.proofs.Working.{disk_tells}
 use Rattle.event_control.specs.ControlEvents.{head}
 use Rattle.ring_types.specs.declared.entries.Entry.{Entry}
 use Rattle.ring_types.specs.declared.gtid_sets.ServerSet.{ServerSet}
@@ -10,8 +11,9 @@ use Rattle.binlog_store.proofs.EmptyMounts.{held_empty, keeps_empty, said_empty}
 use Rattle.binlog_store.proofs.mounting.mount_empty.Goals as goal
 
 pub returns-in_err-write_file-clause-keeps : goal.returns-in_err-write_file-clause-keeps
-returns-in_err-write_file-clause-keeps g c told schema =
-    keeps_empty g.D.Disk.files g.D.Disk.moment g.D.Disk.left_since schema c.args.control c.requires.empty (c.requires.stands told) (c.write_file.ensures.crash told)
+returns-in_err-write_file-clause-keeps g c told =
+    keeps_empty g.D.Disk.files g.D.Disk.moment g.D.Disk.left_since
+    (disk_tells g.met.D.Disk.reads_left g.met.D.Disk.counts_now g.met.D.Disk.only_now told) c.args.control c.requires.empty (c.requires.stands told) (c.write_file.ensures.crash told)
 
 pub returns-clause-store : goal.returns-clause-store
 returns-clause-store g c = λ schema. record {
@@ -33,5 +35,6 @@ returns-clause-mounted g c told = λ schema.
     }
 
 pub returns-clause-keeps : goal.returns-clause-keeps
-returns-clause-keeps g c told schema =
-    keeps_empty g.D.Disk.files g.D.Disk.moment g.D.Disk.left_since schema c.args.control c.requires.empty (c.requires.stands told) (c.write_file.ensures.crash told)
+returns-clause-keeps g c told =
+    keeps_empty g.D.Disk.files g.D.Disk.moment g.D.Disk.left_since
+    (disk_tells g.met.D.Disk.reads_left g.met.D.Disk.counts_now g.met.D.Disk.only_now told) c.args.control c.requires.empty (c.requires.stands told) (c.write_file.ensures.crash told)

@@ -1,4 +1,4 @@
-use Rattle.std.proofs.Common.{take, refl, sym, subst, ◌∙◌, arith}
+use Rattle.std.proofs.Common.{refl, sym, subst, ◌∙◌, arith}
 use Rattle.edge_traits.specs.Works.{telling}
 use Rattle.edge_traits.specs.declared.disks.FileId.TheVariants as id
 use Rattle.edge_traits.proofs.Working.{disk_tells}
@@ -10,7 +10,7 @@ use Rattle.binlog_store.proofs.Phases.{below}
 use Rattle.binlog_store.specs.declared.held.HeldLog.{HeldLog}
 use Rattle.binlog_store.proofs.HandedOn.{handed_on}
 use Rattle.binlog_store.proofs.Keeping.{keeps_then}
-use Rattle.binlog_store.proofs.LogMounts.{all_read, cut_held, cut_keeps, end_firm, said_named, still_read, there}
+use Rattle.binlog_store.proofs.LogMounts.{all_read, cut_held, cut_keeps, end_firm, said_named, there}
 use Rattle.binlog_store.proofs.mounting.mount_log.Goals as goal
 
 pub returns-in_err-held-clause-damaged : goal.returns-in_err-held-clause-damaged
@@ -31,13 +31,12 @@ returns-in_err-cut_behind-clause-keeps g c told =
     (c.in_ok-held.ensures.same told) (c.in_ok-held.ensures.all told) in
     let mid = g.D.Disk.files c.read_log.new.disk in
     let stands : Stands c.args.control (mid id.LogCtl) = subst (Stands c.args.control) (sym (c.read_log.ensures.control told)) (c.requires.stands told) in
-    keeps_then g.D.Disk.files g.D.Disk.moment g.D.Disk.left_since c.args.schema.now
+    keeps_then g.D.Disk.files g.D.Disk.moment g.D.Disk.left_since
     (disk_tells g.met.D.Disk.reads_left g.met.D.Disk.counts_now g.met.D.Disk.only_now told) (disk_tells g.met.D.Disk.reads_left g.met.D.Disk.counts_now g.met.D.Disk.only_now told_mid)
     (c.read_log.ensures.keeps told)
-    (cut_keeps c.args.schema.now c.in_ok-held.held.entries c.args.point.highest c.args.control (said_named c.args.schema.now c.in_ok-held.held c.args.point c.args.control.bytes c.in_ok-held.ensures.held c.in_ok-held.ensures.written c.in_ok-held.ensures.ends c.requires.named)
-    (telling g.D.Disk.files g.D.Disk.moment g.D.Disk.left_since c.read_log.new.disk) (telling g.D.Disk.files g.D.Disk.moment g.D.Disk.left_since c.cut_behind.new.disk) stands x.read
-    c.args.point.file c.args.point.end (take c.args.point.end (mid (id.Binlog c.args.point.file)).bytes)
-    (λ d may front. still_read c.args.schema.now c.args.point c.in_ok-held.held mid x d may front) (c.cut_behind.ensures.crash told_mid))
+    (cut_keeps c.args.point c.args.control c.requires.named (telling g.D.Disk.files g.D.Disk.moment g.D.Disk.left_since c.read_log.new.disk)
+    (telling g.D.Disk.files g.D.Disk.moment g.D.Disk.left_since c.cut_behind.new.disk) stands x.synced
+    (disk_tells g.met.D.Disk.reads_left g.met.D.Disk.counts_now g.met.D.Disk.only_now told_mid) (c.cut_behind.ensures.crash told_mid))
 
 pub returns-clause-store : goal.returns-clause-store
 returns-clause-store g c = record {
@@ -74,10 +73,9 @@ returns-clause-keeps g c told =
     (c.in_ok-held.ensures.same told) (c.in_ok-held.ensures.all told) in
     let mid = g.D.Disk.files c.read_log.new.disk in
     let stands : Stands c.args.control (mid id.LogCtl) = subst (Stands c.args.control) (sym (c.read_log.ensures.control told)) (c.requires.stands told) in
-    keeps_then g.D.Disk.files g.D.Disk.moment g.D.Disk.left_since c.args.schema.now
+    keeps_then g.D.Disk.files g.D.Disk.moment g.D.Disk.left_since
     (disk_tells g.met.D.Disk.reads_left g.met.D.Disk.counts_now g.met.D.Disk.only_now told) (disk_tells g.met.D.Disk.reads_left g.met.D.Disk.counts_now g.met.D.Disk.only_now told_mid)
     (c.read_log.ensures.keeps told)
-    (cut_keeps c.args.schema.now c.in_ok-held.held.entries c.args.point.highest c.args.control (said_named c.args.schema.now c.in_ok-held.held c.args.point c.args.control.bytes c.in_ok-held.ensures.held c.in_ok-held.ensures.written c.in_ok-held.ensures.ends c.requires.named)
-    (telling g.D.Disk.files g.D.Disk.moment g.D.Disk.left_since c.read_log.new.disk) (telling g.D.Disk.files g.D.Disk.moment g.D.Disk.left_since c.cut_behind.new.disk) stands x.read
-    c.args.point.file c.args.point.end (take c.args.point.end (mid (id.Binlog c.args.point.file)).bytes)
-    (λ d may front. still_read c.args.schema.now c.args.point c.in_ok-held.held mid x d may front) (c.cut_behind.ensures.crash told_mid))
+    (cut_keeps c.args.point c.args.control c.requires.named (telling g.D.Disk.files g.D.Disk.moment g.D.Disk.left_since c.read_log.new.disk)
+    (telling g.D.Disk.files g.D.Disk.moment g.D.Disk.left_since c.cut_behind.new.disk) stands x.synced
+    (disk_tells g.met.D.Disk.reads_left g.met.D.Disk.counts_now g.met.D.Disk.only_now told_mid) (c.cut_behind.ensures.crash told_mid))

@@ -6,14 +6,14 @@ use Rattle.ring_types.specs.declared.entries.Entry.{Entry}
 use Rattle.binlog_store.specs.Damages.{FilesFault, before_end}
 use Rattle.binlog_store.specs.Following.{ComesTo, IsBegun}
 use Rattle.binlog_store.specs.Groups.{log_files}
-use Rattle.binlog_store.specs.Stands.{IsWritten, LogStands}
+use Rattle.binlog_store.specs.Stands.{IsWritten}
 use Rattle.binlog_store.proofs.FileHeads.{earlier_ending}
 use Rattle.binlog_store.proofs.FileReads.{control_then, read_then, same_then}
 use Rattle.binlog_store.proofs.HandedOn.{handed_on}
 use Rattle.binlog_store.proofs.Keeping.{keeps_then}
 use Rattle.binlog_store.proofs.LastFiles.{comes_all}
 use Rattle.binlog_store.proofs.Telling.{written_none}
-use Rattle.binlog_store.specs.Mounting.{AreRead}
+use Rattle.binlog_store.specs.Mounting.{AreRead, ReadsAsLeft}
 use Rattle.binlog_store.proofs.mounting.read_log.Goals as goal
 
 pub loop-held-init : goal.loop-held-init
@@ -30,7 +30,7 @@ loop-held-init g c =
       read = λ told n one less. absurd (omega (arith, begun.0, one, less));
       same = λ told n. refl;
       control = λ told. refl;
-      keeps = λ told log held. works_still log_files (telling g.D.Disk.files g.D.Disk.moment g.D.Disk.left_since c.args.disk.now) (LogStands c.args.schema.now log);
+      keeps = λ told. works_still log_files (telling g.D.Disk.files g.D.Disk.moment g.D.Disk.left_since c.args.disk.now) (ReadsAsLeft (g.D.Disk.files c.args.disk.now));
       story = refl;
       tells = refl;
       later = omega arith;
@@ -69,7 +69,7 @@ loop-held-preserved g c =
           control_then old mid new k (c.in_ok-read_next_file.ensures.read told_mid) (c.read_next_file.ensures.elsewhere told_mid) (c.loop-held.invariant.same told) (c.loop-held.invariant.control told);
       keeps = λ told.
           let told_mid = c.loop-held.invariant.tells ∙ told in
-          keeps_then g.D.Disk.files g.D.Disk.moment g.D.Disk.left_since c.args.schema.now
+          keeps_then g.D.Disk.files g.D.Disk.moment g.D.Disk.left_since
           (disk_tells g.met.D.Disk.reads_left g.met.D.Disk.counts_now g.met.D.Disk.only_now told) (disk_tells g.met.D.Disk.reads_left g.met.D.Disk.counts_now g.met.D.Disk.only_now told_mid)
           (c.loop-held.invariant.keeps told) (c.read_next_file.ensures.keeps told_mid);
       story = c.read_next_file.ensures.story ∙ c.loop-held.invariant.story;
@@ -87,7 +87,7 @@ returns-in_err-read_next_file-clause-damaged g c told = λ x seen.
 pub returns-in_err-read_next_file-clause-keeps : goal.returns-in_err-read_next_file-clause-keeps
 returns-in_err-read_next_file-clause-keeps g c told =
     let told_mid = c.loop-held.invariant.tells ∙ told in
-    keeps_then g.D.Disk.files g.D.Disk.moment g.D.Disk.left_since c.args.schema.now
+    keeps_then g.D.Disk.files g.D.Disk.moment g.D.Disk.left_since
     (disk_tells g.met.D.Disk.reads_left g.met.D.Disk.counts_now g.met.D.Disk.only_now told) (disk_tells g.met.D.Disk.reads_left g.met.D.Disk.counts_now g.met.D.Disk.only_now told_mid)
     (c.loop-held.invariant.keeps told) (c.read_next_file.ensures.keeps told_mid)
 
@@ -101,7 +101,7 @@ returns-in_err-read_next_file-2-clause-damaged g c told = λ x seen.
 pub returns-in_err-read_next_file-2-clause-keeps : goal.returns-in_err-read_next_file-2-clause-keeps
 returns-in_err-read_next_file-2-clause-keeps g c told =
     let told_mid = c.loop-held.invariant.tells ∙ told in
-    keeps_then g.D.Disk.files g.D.Disk.moment g.D.Disk.left_since c.args.schema.now
+    keeps_then g.D.Disk.files g.D.Disk.moment g.D.Disk.left_since
     (disk_tells g.met.D.Disk.reads_left g.met.D.Disk.counts_now g.met.D.Disk.only_now told) (disk_tells g.met.D.Disk.reads_left g.met.D.Disk.counts_now g.met.D.Disk.only_now told_mid)
     (c.loop-held.invariant.keeps told) (c.read_next_file-2.ensures.keeps told_mid)
 
@@ -116,6 +116,6 @@ returns-clause-all g c told = λ x seen.
 pub returns-clause-keeps : goal.returns-clause-keeps
 returns-clause-keeps g c told =
     let told_mid = c.loop-held.invariant.tells ∙ told in
-    keeps_then g.D.Disk.files g.D.Disk.moment g.D.Disk.left_since c.args.schema.now
+    keeps_then g.D.Disk.files g.D.Disk.moment g.D.Disk.left_since
     (disk_tells g.met.D.Disk.reads_left g.met.D.Disk.counts_now g.met.D.Disk.only_now told) (disk_tells g.met.D.Disk.reads_left g.met.D.Disk.counts_now g.met.D.Disk.only_now told_mid)
     (c.loop-held.invariant.keeps told) (c.read_next_file-2.ensures.keeps told_mid)

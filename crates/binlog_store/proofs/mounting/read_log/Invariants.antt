@@ -22,7 +22,7 @@ invariant-loop-held g l = record {
   read : g.D.Disk.tells l.fn.disk ≡ true → AreRead l.held.end.place.file (g.D.Disk.files l.fn.disk) (g.D.Disk.files l.disk);
   same : g.D.Disk.tells l.fn.disk ≡ true → HaveTheirBytes (g.D.Disk.files l.fn.disk) (g.D.Disk.files l.disk);
   control : g.D.Disk.tells l.fn.disk ≡ true → g.D.Disk.files l.disk id.LogCtl ≡ g.D.Disk.files l.fn.disk id.LogCtl;
-  keeps : g.D.Disk.tells l.fn.disk ≡ true → Keeps l.schema g.D.Disk.files g.D.Disk.moment g.D.Disk.left_since l.fn.disk l.disk;
+  keeps : g.D.Disk.tells l.fn.disk ≡ true → Keeps g.D.Disk.files g.D.Disk.moment g.D.Disk.left_since l.fn.disk l.disk;
   story : g.D.Disk.story l.disk ≡ g.D.Disk.story l.fn.disk;
   tells : g.D.Disk.tells l.disk ≡ g.D.Disk.tells l.fn.disk;
   later : g.D.Disk.faults l.fn.disk ≤ g.D.Disk.faults l.disk;

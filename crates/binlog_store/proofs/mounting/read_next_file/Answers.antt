@@ -16,7 +16,7 @@ use Rattle.binlog_store.proofs.mounting.read_next_file.Goals as goal
 
 pub returns-in_err-bytes-clause-keeps : goal.returns-in_err-bytes-clause-keeps
 returns-in_err-bytes-clause-keeps g c told =
-    keeps_one g.D.Disk.files g.D.Disk.moment g.D.Disk.left_since c.args.schema.now (id.Binlog c.args.held.now.end.place.file) refl (c.read_file.ensures.crash told)
+    keeps_one g.D.Disk.files g.D.Disk.moment g.D.Disk.left_since (id.Binlog c.args.held.now.end.place.file) refl (c.read_file.ensures.crash told)
 
 pub returns-clause-next : goal.returns-clause-next
 returns-clause-next g c =
@@ -64,4 +64,4 @@ returns-clause-damaged g c told = λ x n there first begun. c.read_shown.ensures
 
 pub returns-clause-keeps : goal.returns-clause-keeps
 returns-clause-keeps g c told =
-    keeps_one g.D.Disk.files g.D.Disk.moment g.D.Disk.left_since c.args.schema.now (id.Binlog c.args.held.now.end.place.file) refl (c.read_file.ensures.crash told)
+    keeps_one g.D.Disk.files g.D.Disk.moment g.D.Disk.left_since (id.Binlog c.args.held.now.end.place.file) refl (c.read_file.ensures.crash told)

@@ -10,10 +10,10 @@ use Rattle.binlog_store.proofs.WholeMounts.{files_fault, ok_holds, ok_stands, st
 use Rattle.binlog_store.proofs.stores.BinlogStore.mount.Goals as goal
 
 pub returns-in_err-control-clause-crash : goal.returns-in_err-control-clause-crash
-returns-in_err-control-clause-crash g c told = c.mount_control.ensures.keeps told c.args.schema.now
+returns-in_err-control-clause-crash g c told = c.mount_control.ensures.keeps told
 
 pub returns-in_err-told_point-clause-crash : goal.returns-in_err-told_point-clause-crash
-returns-in_err-told_point-clause-crash g c told = c.mount_control.ensures.keeps told c.args.schema.now
+returns-in_err-told_point-clause-crash g c told = c.mount_control.ensures.keeps told
 
 pub returns-in-None-clause-holds : goal.returns-in-None-clause-holds
 returns-in-None-clause-holds g c told =
@@ -25,9 +25,9 @@ returns-in-None-clause-holds g c told =
 pub returns-in-None-clause-crash : goal.returns-in-None-clause-crash
 returns-in-None-clause-crash g c told =
     let told_mid = c.mount_control.ensures.tells ∙ told in
-    keeps_then g.D.Disk.files g.D.Disk.moment g.D.Disk.left_since c.args.schema.now
+    keeps_then g.D.Disk.files g.D.Disk.moment g.D.Disk.left_since
     (disk_tells g.met.D.Disk.reads_left g.met.D.Disk.counts_now g.met.D.Disk.only_now told) (disk_tells g.met.D.Disk.reads_left g.met.D.Disk.counts_now g.met.D.Disk.only_now told_mid)
-    (c.mount_control.ensures.keeps told c.args.schema.now) (c.mount_empty.ensures.keeps told_mid c.args.schema.now)
+    (c.mount_control.ensures.keeps told) (c.mount_empty.ensures.keeps told_mid)
 
 pub returns-in-Some-clause-log : goal.returns-in-Some-clause-log
 returns-in-Some-clause-log g c told =
@@ -44,9 +44,9 @@ returns-in-Some-clause-holds g c told =
 pub returns-in-Some-clause-crash : goal.returns-in-Some-clause-crash
 returns-in-Some-clause-crash g c told =
     let told_mid = c.mount_control.ensures.tells ∙ told in
-    keeps_then g.D.Disk.files g.D.Disk.moment g.D.Disk.left_since c.args.schema.now
+    keeps_then g.D.Disk.files g.D.Disk.moment g.D.Disk.left_since
     (disk_tells g.met.D.Disk.reads_left g.met.D.Disk.counts_now g.met.D.Disk.only_now told) (disk_tells g.met.D.Disk.reads_left g.met.D.Disk.counts_now g.met.D.Disk.only_now told_mid)
-    (c.mount_control.ensures.keeps told c.args.schema.now) (c.mount_log.ensures.keeps told_mid)
+    (c.mount_control.ensures.keeps told) (c.mount_log.ensures.keeps told_mid)
 
 pub returns-in-Some-clause-damaged : goal.returns-in-Some-clause-damaged
 returns-in-Some-clause-damaged g c told =
