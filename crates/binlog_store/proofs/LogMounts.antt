@@ -7,6 +7,7 @@ use Rattle.ring_types.proofs.Booleans.{lt_true}
 use Rattle.ring_types.specs.declared.schemas.Schema.{Schema}
 use Rattle.edge_traits.specs.FileStates.{Contents, FileState, Files, Firm, MayLeave, settled, shortened}
 use Rattle.edge_traits.specs.Works.{IsTelling, MayOut, Telling, Works, seen}
+use Rattle.edge_traits.specs.declared.disks.FileId.{FileId}
 use Rattle.edge_traits.specs.declared.disks.FileId.TheVariants as file
 use Rattle.edge_traits.proofs.FileStates.{settled_only}
 use Rattle.control_block.specs.Blocks.{Stands}
@@ -14,7 +15,7 @@ use Rattle.control_block.specs.declared.blocks.ControlBlock.{ControlBlock}
 use Rattle.control_block.proofs.Mounted.{stands_for, stands_left}
 use Rattle.entry_group.specs.Files.{files}
 use Rattle.binlog_store.specs.Added.{continued}
-use Rattle.binlog_store.specs.Damages.{before_end, point_in}
+use Rattle.binlog_store.specs.Damages.{FilesFault, before_end, point_in}
 use Rattle.binlog_store.specs.Files.{LeavesFront, from_file}
 use Rattle.binlog_store.specs.Groups.{log_files}
 use Rattle.binlog_store.specs.Held.{EndsThere, IsHeldLog}
@@ -30,6 +31,7 @@ use Rattle.binlog_store.proofs.LastFiles.{shown_last}
 use Rattle.binlog_store.proofs.LogEnds.{file_there}
 use Rattle.binlog_store.proofs.NextPlaces.{some_files}
 use Rattle.binlog_store.proofs.Phases.{below, files_within, works_beside}
+use Rattle.binlog_store.proofs.Undamaged.{files_whole}
 use Rattle.binlog_store.proofs.Truncating.{front_firm, held_cut}
 
 -- ---- the point
@@ -89,6 +91,17 @@ all_read schema p held c is ends all =
     let count : suc p.file ≡ 1 + length (made.0 ∷ made.1) = omega (arith, ap length made.2, file_there schema held.entries held.end is, ends.number) in
     subst (ReadsFiles c 1) (sym made.2)
     (reads_whole p c 1 p.file made.0 made.1 count refl (sym (ap last_length made.2) ∙ (sym is.at_is ∙ ends.at_is)) (subst (ReadsFiles (before_end p c) 1) made.2 all.on.told.read))
+
+-- the content is not damaged
+pub all_whole : (schema : Schema) (p : LogPoint) (held : HeldLog) (c : Contents) (bytes : Option (List ℕ)) → IsHeldLog schema held → IsWritten schema held.entries
+    → EndsThere p held → Names bytes p → IsAll schema p c held.entries → (f : FileId) (at : ℕ) → FilesFault schema p c f at → ⊥
+all_whole schema p held c None is written ends names all f at fault = names
+all_whole schema p held c (Some bytes) is written ends names all f at fault =
+    let same = point_is schema held p is ends in
+    let said = said_named schema held p (Some bytes) is written ends names in
+    files_whole schema c held.entries bytes
+    (record { highest = p.highest; point = said.says; point_fits = said.fits; written = written; read = all_read schema p held c is ends all }) f at
+    (subst (λ (q : LogPoint). FilesFault schema q c f at) (sym same) fault)
 
 -- its files are synced and read as the log, and more may stand behind it
 pub record IsThere (schema : Schema) (p : LogPoint) (held : HeldLog) (on : Files) : Type 0 where

@@ -155,7 +155,7 @@ module _ (schema : Schema) (c : Contents) (log : List Entry) (bytes : List ℕ) 
       let whole : (length log == length log) ≡ true = eq-eqb (length log) (length log) refl in
       ap (in_next schema ends c log) next_none ∙ rw (reached, rest_none, whole) refl
 
-  files_whole : (f : FileId) (at : ℕ) → FilesFault schema ends c f at → ⊥
+  pub files_whole : (f : FileId) (at : ℕ) → FilesFault schema ends c f at → ⊥
   files_whole f at (inl x) = x.none log told
   files_whole f at (inr x) =
       let same = one_longest schema (before_end ends c) x.log log x.longest longest in

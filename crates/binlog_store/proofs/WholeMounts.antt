@@ -13,7 +13,7 @@ use Rattle.entry_group.specs.Files.{files}
 use Rattle.binlog_store.specs.Damages.{ControlFault, FilesFault, LogFault, PointFault}
 use Rattle.binlog_store.specs.Groups.{log_files}
 use Rattle.binlog_store.specs.Mounted.{IsMounted, IsStore, log_of}
-use Rattle.binlog_store.specs.Mounting.{IsSeen, PointTold, seen_of}
+use Rattle.binlog_store.specs.Mounting.{HaveTheirBytes, IsSeen, PointTold, seen_of}
 use Rattle.binlog_store.specs.Stands.{LogStands, ReadsFiles}
 use Rattle.binlog_store.specs.declared.faults.StoreFault.{StoreFault}
 use Rattle.binlog_store.specs.declared.points.LogPoint.{LogPoint}
@@ -44,3 +44,20 @@ pub files_fault : (schema : Schema) (c : Contents) (bytes : Option (List ℕ)) (
 files_fault schema c None p says told f at fault = absurd (let z : Ok (Some p) ≡ Ok None = told in cc)
 files_fault schema c (Some bytes) p says told f at fault =
     subst (ControlFault schema c f at) (sym says) (subst (PointFault schema c f at) (sym told.named) fault)
+
+pub fault_files : (schema : Schema) (c : Contents) (bytes : Option (List ℕ)) (p : LogPoint) → control_of (c file.LogCtl) ≡ Some bytes
+    → PointTold bytes (Ok (Some p)) → (f : FileId) (at : ℕ) → LogFault schema c f at → FilesFault schema p c f at
+fault_files schema c None p says told f at fault = absurd (let z : Ok (Some p) ≡ Ok None = told in cc)
+fault_files schema c (Some bytes) p says told f at fault = subst (PointFault schema c f at) told.named (subst (ControlFault schema c f at) says fault)
+
+pub no_fault : (schema : Schema) (c : Contents) (bytes : Option (List ℕ)) → control_of (c file.LogCtl) ≡ Some bytes → PointTold bytes (Ok None) → (f : FileId) (at : ℕ)
+    → LogFault schema c f at → ⊥
+no_fault schema c None says told f at fault = subst (ControlFault schema c f at) says fault
+no_fault schema c (Some bytes) says told f at fault = told
+
+-- ---- the bytes of the binary log files
+pub bytes_elsewhere : (old mid : Files) → Elsewhere file.LogCtl old mid → HaveTheirBytes old mid
+bytes_elsewhere old mid other n = ap (λ (s : FileState). s.bytes) (other (file.Binlog n) (λ is. cc))
+
+pub bytes_then : (old mid new : Files) → HaveTheirBytes old mid → HaveTheirBytes mid new → HaveTheirBytes old new
+bytes_then old mid new first later n = later n ∙ first n

@@ -1,4 +1,4 @@
-use Rattle.std.specs.Prelude.{ℕ, Result, Ok, Err}
+use Rattle.std.specs.Prelude.{ℕ, Result, Err}
 use Rattle.edge_traits.specs.Counts.{Rose}
 use Rattle.edge_traits.specs.declared.disks.DiskFault.{DiskFault}
 use Rattle.edge_traits.specs.declared.disks.DiskFault.TheVariants as disk
@@ -24,12 +24,6 @@ MountFails before now _ = Unit {0}
 abbrev pub IfDamaged : {T : Type 0} → (FileId → ℕ → Type 0) → Result T StoreFault → Type 0
 IfDamaged P (Err (fault.Damaged f at)) = P f at
 IfDamaged P _ = Unit {0}
-
--- P holds if all was read that the answer needs
-abbrev pub IfRead : {T : Type 0} → Type 0 → Result T StoreFault → Type 0
-IfRead P (Ok x) = P
-IfRead P (Err (fault.Damaged f at)) = P
-IfRead P _ = Unit {0}
 
 -- damage of this file, at this offset
 abbrev pub damage : FileId × ℕ → StoreFault

@@ -136,6 +136,7 @@ pub(crate) fn read_file<D: Disk>(
 ) -> Result<Vec<u8>, StoreFault>
     ensures told { D.tells disk.old ≡ true → IfOk result (λ it. it.items ≡ (D.files disk.old (id.Binlog number)).bytes) }
     ensures settled { D.tells disk.old ≡ true → IfOk result (λ it. D.files disk.new (id.Binlog number) ≡ settled it.items) }
+    ensures same { D.tells disk.old ≡ true → (D.files disk.new (id.Binlog number)).bytes ≡ (D.files disk.old (id.Binlog number)).bytes }
     ensures crash { D.tells disk.old ≡ true → AtEachMoment D.files D.moment D.left_since (id.Binlog number) disk.old disk.new (MayLeave (D.files disk.old (id.Binlog number))) }
     ensures story { D.story disk.new ≡ D.story disk.old }
     ensures tells { D.tells disk.new ≡ D.tells disk.old }

@@ -11,8 +11,8 @@
 //! does again what a stopped truncation left. Where the files stand for no log it names a file and the offset
 //! of the first event with which no log goes on ([`StoreFault::Damaged`]): behind the longest log whose files
 //! they begin with. Of `log.ctl` the offset is 0: its own bytes are at fault, or they name another length, or
-//! an end within a head or behind a Rotate. A mount that names damage leaves the bytes of the binary log files
-//! as they were. Whatever it answers, at each moment of it a crash leaves files that read, as far as the control
+//! an end within a head or behind a Rotate. Of files that are damaged a mount leaves the binary log files' bytes
+//! as they were, whatever it answers. At each moment of it a crash leaves files that read, as far as the control
 //! file says, like some that it might have left before: the same log, the same damage, or, after an append that
 //! failed, still the old log or the new. So a mount may be tried again.
 //!

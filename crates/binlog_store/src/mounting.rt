@@ -6,12 +6,13 @@ ghost use Rattle.ring_types.specs.declared.schemas.Schema.{Schema};
 ghost use Rattle.edge_traits.specs.DiskCalls.{Elsewhere};
 ghost use Rattle.edge_traits.specs.FileStates.{Contents, settled};
 ghost use Rattle.edge_traits.specs.Works.{HoldsOn};
+ghost use Rattle.edge_traits.specs.declared.disks.FileId.{FileId};
 ghost use Rattle.edge_traits.specs.declared.disks.FileId.TheVariants as id;
 ghost use Rattle.control_block.specs.Blocks.{Stands};
 ghost use Rattle.control_block.specs.ControlFiles.{control_of};
 ghost use Rattle.entry_group.specs.Files.{files, head_after};
 ghost use Rattle.binlog_store.specs.Damages.{FilesFault, LogFault, before_end, ending_of};
-ghost use Rattle.binlog_store.specs.Faults.{IfDamaged, IfRead, MountFails, StoreFails};
+ghost use Rattle.binlog_store.specs.Faults.{IfDamaged, MountFails, StoreFails};
 ghost use Rattle.binlog_store.specs.Following.{ComesTo, IsAll, IsBegun};
 ghost use Rattle.binlog_store.specs.Groups.{log_files};
 ghost use Rattle.binlog_store.specs.Held.{EndsThere, IsHeldLog, IsLastFile, IsNextFile};
@@ -91,7 +92,8 @@ fn read_next_file<D: Disk>(
     ensures last { OnOk result (held.old.end.place.file ≡ point.file → IsLastFile held.old.end.place point.end point.count held.new) }
     ensures told { D.tells disk.old ≡ true → (c : Contents) (n : ℕ) → c (id.Binlog (n + 1)) ≡ (D.files disk.old (id.Binlog (n + 1))).bytes → held.old.end.place.file ≡ n + 1 → IsBegun schema.now (before_end point c) n held.old.entries → OnOk result (ComesTo schema.now point c (n + 1) held.new.entries (ending_of point c (n + 1))) }
     ensures damaged { D.tells disk.old ≡ true → (c : Contents) (n : ℕ) → c (id.Binlog (n + 1)) ≡ (D.files disk.old (id.Binlog (n + 1))).bytes → held.old.end.place.file ≡ n + 1 → IsBegun schema.now (before_end point c) n held.old.entries → IfDamaged (FilesFault schema.now point c) result }
-    ensures read { D.tells disk.old ≡ true → IfRead (D.files disk.new (id.Binlog held.old.end.place.file) ≡ settled (D.files disk.old (id.Binlog held.old.end.place.file)).bytes) result }
+    ensures read { D.tells disk.old ≡ true → OnOk result (D.files disk.new (id.Binlog held.old.end.place.file) ≡ settled (D.files disk.old (id.Binlog held.old.end.place.file)).bytes) }
+    ensures same { D.tells disk.old ≡ true → (D.files disk.new (id.Binlog held.old.end.place.file)).bytes ≡ (D.files disk.old (id.Binlog held.old.end.place.file)).bytes }
     ensures elsewhere { D.tells disk.old ≡ true → Elsewhere (id.Binlog held.old.end.place.file) (D.files disk.old) (D.files disk.new) }
     ensures keeps { D.tells disk.old ≡ true → Keeps D.files D.moment D.left_since disk.old disk.new }
     ensures story { D.story disk.new ≡ D.story disk.old }
@@ -121,7 +123,7 @@ fn read_log<D: Disk>(
     ensures all { D.tells disk.old ≡ true → (c : Contents) → IsSeen c (D.files disk.old) → IfOk result (λ it. IsAll schema.now point c it.entries) }
     ensures damaged { D.tells disk.old ≡ true → (c : Contents) → IsSeen c (D.files disk.old) → IfDamaged (FilesFault schema.now point c) result }
     ensures read { D.tells disk.old ≡ true → OnOk result (AreRead (point.file + 1) (D.files disk.old) (D.files disk.new)) }
-    ensures same { D.tells disk.old ≡ true → IfRead (HaveTheirBytes (D.files disk.old) (D.files disk.new)) result }
+    ensures same { D.tells disk.old ≡ true → HaveTheirBytes (D.files disk.old) (D.files disk.new) }
     ensures control { D.tells disk.old ≡ true → D.files disk.new id.LogCtl ≡ D.files disk.old id.LogCtl }
     ensures keeps { D.tells disk.old ≡ true → Keeps D.files D.moment D.left_since disk.old disk.new }
     ensures story { D.story disk.new ≡ D.story disk.old }
@@ -186,7 +188,7 @@ fn mount_log<D: Disk>(
     ensures mounted { D.tells disk.old ≡ true → IfOk result (λ it. IsMounted schema.now it (D.files disk.new)) }
     ensures above { D.tells disk.old ≡ true → IfOk result (λ it. (n : ℕ) → rotates (log_of it) + 1 < n → n ≤ it.highest → (D.files disk.new (id.Binlog n)).bytes ≡ []) }
     ensures damaged { D.tells disk.old ≡ true → (c : Contents) → IsSeen c (D.files disk.old) → IfDamaged (FilesFault schema.now point c) result }
-    ensures same { D.tells disk.old ≡ true → IfDamaged (λ f at. HaveTheirBytes (D.files disk.old) (D.files disk.new)) result }
+    ensures same { D.tells disk.old ≡ true → (c : Contents) → IsSeen c (D.files disk.old) → (f : FileId) (at : ℕ) → FilesFault schema.now point c f at → HaveTheirBytes (D.files disk.old) (D.files disk.new) }
     ensures keeps { D.tells disk.old ≡ true → Keeps D.files D.moment D.left_since disk.old disk.new }
     ensures story { D.story disk.new ≡ D.story disk.old }
     ensures tells { D.tells disk.new ≡ D.tells disk.old }
@@ -221,7 +223,7 @@ impl BinlogStore {
         ensures above { D.tells disk.old ≡ true → IfOk result (λ it. (n : ℕ) → rotates (log_of it) + 1 < n → n ≤ it.highest → (D.files disk.new (id.Binlog n)).bytes ≡ []) }
         ensures crash { D.tells disk.old ≡ true → Keeps D.files D.moment D.left_since disk.old disk.new }
         ensures damaged { D.tells disk.old ≡ true → IfDamaged (LogFault schema.now (seen_of (D.files disk.old))) result }
-        ensures kept { D.tells disk.old ≡ true → IfDamaged (λ f at. HaveTheirBytes (D.files disk.old) (D.files disk.new)) result }
+        ensures kept { D.tells disk.old ≡ true → (f : FileId) (at : ℕ) → LogFault schema.now (seen_of (D.files disk.old)) f at → HaveTheirBytes (D.files disk.old) (D.files disk.new) }
         ensures story { D.story disk.new ≡ D.story disk.old }
         ensures tells { D.tells disk.new ≡ D.tells disk.old }
         ensures later { D.faults disk.old ≤ D.faults disk.new }

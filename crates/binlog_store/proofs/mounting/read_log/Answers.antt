@@ -60,13 +60,13 @@ loop-held-preserved g c =
       read = λ told.
           let told_mid = c.loop-held.invariant.tells ∙ told in
           subst (λ (z : ℕ). AreRead z old new) (sym next.number)
-          (read_then old mid new k (c.in_ok-read_next_file.ensures.read told_mid) (c.read_next_file.ensures.elsewhere told_mid) (c.loop-held.invariant.same told) (c.loop-held.invariant.read told));
+          (read_then old mid new k (c.read_next_file.ensures.elsewhere told_mid) (c.loop-held.invariant.same told) (c.in_ok-read_next_file.ensures.read told_mid) (c.loop-held.invariant.read told));
       same = λ told.
           let told_mid = c.loop-held.invariant.tells ∙ told in
-          same_then old mid new k (c.in_ok-read_next_file.ensures.read told_mid) (c.read_next_file.ensures.elsewhere told_mid) (c.loop-held.invariant.same told);
+          same_then old mid new k (c.read_next_file.ensures.elsewhere told_mid) (c.loop-held.invariant.same told) (c.read_next_file.ensures.same told_mid);
       control = λ told.
           let told_mid = c.loop-held.invariant.tells ∙ told in
-          control_then old mid new k (c.in_ok-read_next_file.ensures.read told_mid) (c.read_next_file.ensures.elsewhere told_mid) (c.loop-held.invariant.same told) (c.loop-held.invariant.control told);
+          control_then old mid new k (c.read_next_file.ensures.elsewhere told_mid) (c.loop-held.invariant.same told) (c.loop-held.invariant.control told);
       keeps = λ told.
           let told_mid = c.loop-held.invariant.tells ∙ told in
           keeps_then g.D.Disk.files g.D.Disk.moment g.D.Disk.left_since
@@ -119,3 +119,21 @@ returns-clause-keeps g c told =
     keeps_then g.D.Disk.files g.D.Disk.moment g.D.Disk.left_since
     (disk_tells g.met.D.Disk.reads_left g.met.D.Disk.counts_now g.met.D.Disk.only_now told) (disk_tells g.met.D.Disk.reads_left g.met.D.Disk.counts_now g.met.D.Disk.only_now told_mid)
     (c.loop-held.invariant.keeps told) (c.read_next_file-2.ensures.keeps told_mid)
+
+pub returns-in_err-read_next_file-clause-same : goal.returns-in_err-read_next_file-clause-same
+returns-in_err-read_next_file-clause-same g c told =
+    let told_mid = c.loop-held.invariant.tells ∙ told in
+    same_then (g.D.Disk.files c.args.disk.now) (g.D.Disk.files c.loop-held.disk) (g.D.Disk.files c.read_next_file.new.disk) c.loop-held.held.end.place.file (c.read_next_file.ensures.elsewhere told_mid)
+    (c.loop-held.invariant.same told) (c.read_next_file.ensures.same told_mid)
+
+pub returns-in_err-read_next_file-2-clause-same : goal.returns-in_err-read_next_file-2-clause-same
+returns-in_err-read_next_file-2-clause-same g c told =
+    let told_mid = c.loop-held.invariant.tells ∙ told in
+    same_then (g.D.Disk.files c.args.disk.now) (g.D.Disk.files c.loop-held.disk) (g.D.Disk.files c.read_next_file-2.new.disk) c.loop-held.held.end.place.file (c.read_next_file-2.ensures.elsewhere told_mid)
+    (c.loop-held.invariant.same told) (c.read_next_file-2.ensures.same told_mid)
+
+pub returns-clause-same : goal.returns-clause-same
+returns-clause-same g c told =
+    let told_mid = c.loop-held.invariant.tells ∙ told in
+    same_then (g.D.Disk.files c.args.disk.now) (g.D.Disk.files c.loop-held.disk) (g.D.Disk.files c.read_next_file-2.new.disk) c.loop-held.held.end.place.file (c.read_next_file-2.ensures.elsewhere told_mid)
+    (c.loop-held.invariant.same told) (c.read_next_file-2.ensures.same told_mid)

@@ -6,7 +6,7 @@ use Rattle.binlog_store.specs.Mounting.{PointTold, seen_of}
 use Rattle.binlog_store.specs.declared.points.LogPoint.{LogPoint}
 use Rattle.binlog_store.proofs.HandedOn.{damaged_more, ok_map}
 use Rattle.binlog_store.proofs.Keeping.{keeps_then}
-use Rattle.binlog_store.proofs.WholeMounts.{files_fault, ok_holds, ok_stands, still_seen}
+use Rattle.binlog_store.proofs.WholeMounts.{bytes_elsewhere, bytes_then, fault_files, files_fault, no_fault, ok_holds, ok_stands, still_seen}
 use Rattle.binlog_store.proofs.stores.BinlogStore.mount.Goals as goal
 
 pub returns-in_err-control-clause-crash : goal.returns-in_err-control-clause-crash
@@ -56,3 +56,26 @@ returns-in-Some-clause-damaged g c told =
     (files_fault c.args.schema.now (seen_of old) c.in_ok-control.control.bytes c.in-Some.point (c.in_ok-control.ensures.holds told)
     (subst (λ (o : Option LogPoint). PointTold c.in_ok-control.control.bytes (Ok o)) c.in-Some.is c.in_ok-told_point.ensures))
     (c.mount_log.ensures.damaged (c.mount_control.ensures.tells ∙ told) (seen_of old) seen)
+
+pub returns-in_err-control-clause-kept : goal.returns-in_err-control-clause-kept
+returns-in_err-control-clause-kept g c told = λ f at fault.
+    bytes_elsewhere (g.D.Disk.files c.args.disk.now) (g.D.Disk.files c.mount_control.new.disk) (c.mount_control.ensures.elsewhere told)
+
+pub returns-in_err-told_point-clause-kept : goal.returns-in_err-told_point-clause-kept
+returns-in_err-told_point-clause-kept g c told = λ f at fault.
+    bytes_elsewhere (g.D.Disk.files c.args.disk.now) (g.D.Disk.files c.mount_control.new.disk) (c.mount_control.ensures.elsewhere told)
+
+pub returns-in-None-clause-kept : goal.returns-in-None-clause-kept
+returns-in-None-clause-kept g c told = λ f at fault.
+    absurd (no_fault c.args.schema.now (seen_of (g.D.Disk.files c.args.disk.now)) c.in_ok-control.control.bytes (c.in_ok-control.ensures.holds told)
+    (subst (λ (o : Option LogPoint). PointTold c.in_ok-control.control.bytes (Ok o)) c.in-None.is c.in_ok-told_point.ensures) f at fault)
+
+pub returns-in-Some-clause-kept : goal.returns-in-Some-clause-kept
+returns-in-Some-clause-kept g c told = λ f at fault.
+    let old = g.D.Disk.files c.args.disk.now in
+    let mid = g.D.Disk.files c.mount_control.new.disk in
+    let new = g.D.Disk.files c.mount_log.new.disk in
+    bytes_then old mid new (bytes_elsewhere old mid (c.mount_control.ensures.elsewhere told))
+    (c.mount_log.ensures.same (c.mount_control.ensures.tells ∙ told) (seen_of old) (still_seen old mid (c.mount_control.ensures.elsewhere told)) f at
+    (fault_files c.args.schema.now (seen_of old) c.in_ok-control.control.bytes c.in-Some.point (c.in_ok-control.ensures.holds told)
+    (subst (λ (o : Option LogPoint). PointTold c.in_ok-control.control.bytes (Ok o)) c.in-Some.is c.in_ok-told_point.ensures) f at fault))
