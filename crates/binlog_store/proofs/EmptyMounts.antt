@@ -47,7 +47,7 @@ unfolding files
 said_empty schema = record {
   written = written_none schema;
   fits = record { count = omega arith; file = omega arith; end = omega (arith, first_long schema, set_short (gtids [])); highest = omega arith };
-  says = refl;
+  says = (refl, refl);
 }
 
 -- ---- its file

@@ -22,7 +22,7 @@ use Rattle.binlog_store.proofs.HeldFiles.{begins_left, held_reads}
 -- ---- a content that reads so
 pub said_stands : (schema : Schema) (log : List Entry) (highest : ℕ) (bytes : Option (List ℕ)) (c : Contents) → IsSaid schema log highest bytes
     → ReadsFiles c 1 (files schema log) → control_of (c file.LogCtl) ≡ Some bytes → LogStands schema log c
-said_stands schema log highest None c said read is = rw is said.says
+said_stands schema log highest None c said read is = rw is said.says.0
 said_stands schema log highest (Some bytes) c said read is = rw is (record { highest = highest; point = said.says; point_fits = said.fits; written = said.written; read = read })
 
 -- ---- a call that works on some of the files, beside what the others hold

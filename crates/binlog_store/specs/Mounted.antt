@@ -16,9 +16,9 @@ use Rattle.binlog_store.specs.declared.stores.BinlogStore.{BinlogStore}
 abbrev pub log_of : BinlogStore → List Entry
 log_of store = store.held.entries
 
--- the bytes of a control file say where the log ends; without bytes it is empty
+-- the bytes of a control file say where the log ends; without bytes it is empty, and had its first file alone
 abbrev pub Says : Schema → List Entry → ℕ → Option (List ℕ) → Type 0
-Says schema log highest None = log ≡ []
+Says schema log highest None = (log ≡ []) × (highest ≡ 1)
 Says schema log highest (Some bytes) = bytes ≡ point_bytes (point_at log (files schema log) highest)
 
 -- a log that files can have, with a point that fits, which the bytes of a control file say
