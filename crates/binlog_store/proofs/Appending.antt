@@ -74,6 +74,12 @@ pub few_added : (schema : Schema) (store : BinlogStore) (more : List Entry) → 
 few_added schema store more is written =
     omega (arith, file_is schema store.held is.held, count_added schema (log_of store) more, count_files schema (log_of store ++ more), written.is_log.few_files)
 
+-- they reach up to the last file of the longer log
+pub last_added : (schema : Schema) (store : BinlogStore) (more : List Entry) → IsStore schema store
+    → store.held.end.place.file + length (added schema (log_of store) more) ≡ rotates (log_of store ++ more) + 2
+last_added schema store more is =
+    omega (arith, file_is schema store.held is.held, count_added schema (log_of store) more, count_files schema (log_of store ++ more))
+
 module _ (schema : Schema) (store : BinlogStore) (is : IsStore schema store) where
   pub ends : (on : Files) → IsMounted schema store on → EndsAt store.held.end.place.at (on (file.Binlog store.held.end.place.file))
   ends on mounted =

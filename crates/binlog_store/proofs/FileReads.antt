@@ -12,7 +12,7 @@ number_of : ℕ → FileId → ℕ
 number_of other (file.Binlog n) = n
 number_of other _ = other
 
-same_number : (n k : ℕ) → file.Binlog n ≡ file.Binlog k → n ≡ k
+pub same_number : (n k : ℕ) → file.Binlog n ≡ file.Binlog k → n ≡ k
 unfolding number_of
 same_number n k is = ap (number_of n) is
 

@@ -51,6 +51,7 @@ pub(crate) fn write_files<D: Disk>(
 ) -> Result<(), DiskFault>
     requires { first + length files.now ≤ LAST_FILE + 1 }
     ensures here { D.tells disk.old ≡ true → OnOk result (AreSettled (D.files disk.new) first files.now) }
+    ensures above { D.tells disk.old ≡ true → OnOk result ((n : ℕ) → first + length files.now ≤ n → D.files disk.new (id.Binlog n) ≡ D.files disk.old (id.Binlog n)) }
     ensures crash { D.tells disk.old ≡ true → WorksOn (from_file first) D.files D.moment D.left_since disk.old disk.new LeavesAny }
     ensures story { D.story disk.new ≡ D.story disk.old }
     ensures tells { D.tells disk.new ≡ D.tells disk.old }
@@ -75,6 +76,7 @@ pub(crate) fn write_added<D: Disk>(
     requires few { number + length added.now ≤ LAST_FILE + 1 }
     requires ends { D.tells disk.old ≡ true → EndsAt at (D.files disk.old (id.Binlog number)) }
     ensures here { D.tells disk.old ≡ true → OnOk result (AreAdded (D.files disk.new) number (D.files disk.old (id.Binlog number)).bytes added.now) }
+    ensures above { D.tells disk.old ≡ true → OnOk result ((n : ℕ) → number + length added.now ≤ n → D.files disk.new (id.Binlog n) ≡ D.files disk.old (id.Binlog n)) }
     ensures crash { D.tells disk.old ≡ true → WorksOn (from_file number) D.files D.moment D.left_since disk.old disk.new (LeavesFront number at (D.files disk.old (id.Binlog number)).bytes) }
     ensures story { D.story disk.new ≡ D.story disk.old }
     ensures tells { D.tells disk.new ≡ D.tells disk.old }

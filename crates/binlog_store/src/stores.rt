@@ -119,6 +119,7 @@ impl BinlogStore {
         ensures holds { D.tells disk.old ≡ true → OnOk result (HoldsOn log_files D.files D.moment D.left_since disk.new (LogStands schema.now (log_of self.old ++ entries))) }
         ensures crash { D.tells disk.old ≡ true → Switches log_files D.files D.moment D.left_since disk.old disk.new (LogStands schema.now (log_of self.old)) (LogStands schema.now (log_of self.old ++ entries)) }
         ensures highest { OnOk result (self.new.highest ≡ max self.old.highest (rotates (log_of self.new) + 1)) }
+        ensures above { D.tells disk.old ≡ true → OnOk result ((n : ℕ) → rotates (log_of self.new) + 1 < n → D.files disk.new (id.Binlog n) ≡ D.files disk.old (id.Binlog n)) }
         ensures nothing { entries ≡ [] → (result ≡ Ok tt) × (disk.new ≡ disk.old) × (self.new ≡ self.old) }
         ensures story { D.story disk.new ≡ D.story disk.old }
         ensures tells { D.tells disk.new ≡ D.tells disk.old }

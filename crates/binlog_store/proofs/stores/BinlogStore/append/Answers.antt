@@ -12,7 +12,7 @@ use Rattle.binlog_store.specs.Points.{point_bytes}
 use Rattle.binlog_store.specs.Stands.{IsWritten, LogStands}
 use Rattle.binlog_store.specs.declared.held.HeldLog.{HeldLog}
 use Rattle.binlog_store.specs.declared.points.LogPoint.{LogPoint}
-use Rattle.binlog_store.proofs.Appending.{added_there, append_works, control_still, ends, few_added, held_written, highest_point, highest_still, mounted_holds, said_point, switched_mounted, switched_store, works_there, write_works}
+use Rattle.binlog_store.proofs.Appending.{added_there, append_works, control_still, ends, few_added, held_written, highest_point, highest_still, last_added, mounted_holds, said_point, switched_mounted, switched_store, works_there, write_works}
 use Rattle.binlog_store.proofs.stores.BinlogStore.append.Goals as goal
 
 pub write_added-requires-clause-few : goal.write_added-requires-clause-few
@@ -106,3 +106,13 @@ returns-clause-highest g c =
     c.in_ok-switch.ensures.highest
     ∙ (highest_point c.args.schema.now c.extend.new.self c.args.self.now.highest c.point-point.result c.in_ok-added.ensures.held c.point-point.ensures.is
     ∙ ap (λ (h : HeldLog). max c.args.self.now.highest (rotates h.entries + 1)) (sym c.in_ok-switch.ensures.held))
+
+pub returns-clause-above : goal.returns-clause-above
+returns-clause-above g c told = λ n less.
+    let many : c.as_slice.result.now ≡ added c.args.schema.now (log_of c.args.self.now) c.args.entries = c.as_slice.ensures ∙ c.in_ok-added.ensures.gives in
+    let same : log_of c.switch.new.self ≡ log_of c.args.self.now ++ c.args.entries = ap (λ (h : HeldLog). h.entries) c.in_ok-switch.ensures.held ∙ c.in_ok-added.ensures.entries in
+    let last = last_added c.args.schema.now c.args.self.now c.args.entries c.requires.store in
+    let control = c.requires.store.control in
+    (c.switch.ensures.crash (c.write_added.ensures.tells ∙ told)).elsewhere (id.Binlog n) (λ is. let z : id.Binlog n ≡ id.LogCtl = is ∙ control in cc)
+    ∙ c.in_ok-write_added.ensures.above told n
+    (omega (arith, last, ap length many, ap (λ (p : LogPoint). p.file) c.point-end.ensures.is, ap (λ (l : List Entry). rotates l) same, less))
