@@ -1,0 +1,200 @@
+//! Calls on a log of which one call of the disk stops or fails.
+ghost use Rattle.std.specs.Prelude.{◌≡◌, IfOk, List, OnOk};
+ghost use Rattle.binlog_store.specs.Stands.{IsWritten};
+ghost use Rattle.ring_types.specs.declared.entries.Entry.{Entry};
+
+use crate::disks::{WHOLE, find, with_end};
+use crate::ranges::Ranges;
+use binlog_store::{BinlogStore, LogPoint, StoreFault};
+use disk_memory::MemoryDisk;
+use ring_types::{CutAt, Entry, Keep, List, Memory, Ring, after};
+use std::alloc::Global;
+
+/// A call on a log.
+#[derive(Clone, Copy)]
+pub enum Work {
+    /// The first NoOp is appended to the empty log of a new disk.
+    First,
+    /// Entries 3 to 7 are appended.
+    Append,
+    /// The log of 7 entries is truncated to 2.
+    Truncate,
+}
+
+/// Where the log of the first NoOp ends.
+const ONE: LogPoint = LogPoint {
+    count: 1,
+    file: 1,
+    end: 199,
+    highest: 3,
+};
+
+/// The log of the first NoOp, as a mount reads it from another disk.
+fn first_log(alloc: Global, ring: &Ring) -> Result<List<Entry>, StoreFault> {
+    let mut disk = with_end(alloc, ring, ONE)?;
+    ring.law_built();
+    let store = BinlogStore::mount(alloc, ring.schema(), &mut disk)?;
+    let mut log = List::new(alloc);
+    log.extend_copies(alloc, store.entries())?;
+    Ok(log)
+}
+
+/// Begins the turn of which a call stops the disk or fails.
+fn begin(disk: &mut MemoryDisk, cut: CutAt) -> Result<(), Memory>
+    ensures { OnOk result (disk.new.past.records ≡ disk.old.past.records) }
+{
+    match cut {
+        CutAt::Stop { call, keep } => disk.stop_at(call, keep),
+        CutAt::Fail { call } => disk.fail_at(call),
+    }
+}
+
+/// What a call answered.
+fn answer_of(done: Result<(), StoreFault>) -> Result<&'static str, StoreFault> {
+    match done {
+        Ok(()) => Ok("done"),
+        Err(StoreFault::Disk) => Ok("failed"),
+        Err(fault) => Err(fault),
+    }
+}
+
+/// Appends the first NoOp to the empty log of the disk.
+fn append_first(
+    alloc: Global,
+    ring: &Ring,
+    disk: &mut MemoryDisk,
+    cut: CutAt,
+) -> Result<&'static str, StoreFault> {
+    let log = first_log(alloc, ring)?;
+    ring.law_built();
+    let schema = ring.schema();
+    let mut store = BinlogStore::mount(alloc, schema, disk)?;
+    if store.length() != 0 {
+        return Ok("not empty");
+    }
+    begin(disk, cut)?;
+    answer_of(store.append(schema, disk, log))
+}
+
+/// Truncates the log of the disk to two entries, and appends what that left out.
+fn append_again(
+    alloc: Global,
+    ring: &Ring,
+    disk: &mut MemoryDisk,
+    cut: CutAt,
+) -> Result<&'static str, StoreFault> {
+    ring.law_built();
+    let schema = ring.schema();
+    let mut store = BinlogStore::mount(alloc, schema, disk)?;
+    if store.length() < 2 {
+        return Ok("too short");
+    }
+    let mut rest = List::new(alloc);
+    rest.extend_copies(alloc, after(store.entries(), 2))?;
+    store.truncate(schema, disk, 2)?;
+    begin(disk, cut)?;
+    answer_of(store.append(schema, disk, rest))
+}
+
+/// Truncates the log of the disk to two entries.
+fn truncate(
+    alloc: Global,
+    ring: &Ring,
+    disk: &mut MemoryDisk,
+    cut: CutAt,
+) -> Result<&'static str, StoreFault> {
+    ring.law_built();
+    let schema = ring.schema();
+    let mut store = BinlogStore::mount(alloc, schema, disk)?;
+    if store.length() < 2 {
+        return Ok("too short");
+    }
+    begin(disk, cut)?;
+    answer_of(store.truncate(schema, disk, 2))
+}
+
+/// The disk on which the work begins.
+fn disk_for(alloc: Global, ring: &Ring, work: Work) -> Result<MemoryDisk, StoreFault> {
+    match work {
+        Work::First => Ok(MemoryDisk::new(alloc)),
+        Work::Append | Work::Truncate => with_end(alloc, ring, WHOLE),
+    }
+}
+
+fn answer(
+    alloc: Global,
+    ring: &Ring,
+    work: Work,
+    disk: &mut MemoryDisk,
+    cut: CutAt,
+) -> Result<&'static str, StoreFault> {
+    match work {
+        Work::First => append_first(alloc, ring, disk, cut),
+        Work::Append => append_again(alloc, ring, disk, cut),
+        Work::Truncate => truncate(alloc, ring, disk, cut),
+    }
+}
+
+/// What the work answered, and what is found afterwards: after a crash, or at once.
+fn found_after(
+    alloc: Global,
+    ring: &Ring,
+    work: Work,
+    cut: CutAt,
+    crash: bool,
+) -> Result<String, StoreFault> {
+    let mut disk = disk_for(alloc, ring, work)?;
+    let answer = answer(alloc, ring, work, &mut disk, cut)?;
+    if crash {
+        disk.crash()?;
+    }
+    disk.clear()?;
+    let found = find(alloc, ring, &mut disk)?;
+    Ok(format!(in alloc; "{answer}, {found}")?)
+}
+
+/// How many calls of the disk the work makes, and its word.
+fn calls_of(work: Work) -> (u64, &'static str) {
+    match work {
+        Work::First => (6, "first"),
+        Work::Append => (14, "append"),
+        Work::Truncate => (9, "truncate"),
+    }
+}
+
+/// The lines of the work, stopped at each of its calls and at the one behind them; a crash keeps so much of
+/// each write.
+pub fn stops(
+    alloc: Global,
+    ring: &Ring,
+    work: Work,
+    keep: Keep,
+    tail: &str,
+) -> Result<String, StoreFault> {
+    let (calls, name) = calls_of(work);
+    let head = format!(in alloc; "{name} stop ")?;
+    let mut lines = Ranges::new(alloc, head.as_str(), tail);
+    for call in 1..calls + 2 {
+        let found = found_after(alloc, ring, work, CutAt::Stop { call, keep }, true)?;
+        lines.add(format!(in alloc; "{call}")?, found)?;
+    }
+    Ok(lines.into_text()?)
+}
+
+/// The lines of the work of which each call fails, and the one behind them.
+pub fn failures(
+    alloc: Global,
+    ring: &Ring,
+    work: Work,
+    crash: bool,
+    tail: &str,
+) -> Result<String, StoreFault> {
+    let (calls, name) = calls_of(work);
+    let head = format!(in alloc; "{name} fail ")?;
+    let mut lines = Ranges::new(alloc, head.as_str(), tail);
+    for call in 1..calls + 2 {
+        let found = found_after(alloc, ring, work, CutAt::Fail { call }, crash)?;
+        lines.add(format!(in alloc; "{call}")?, found)?;
+    }
+    Ok(lines.into_text()?)
+}
