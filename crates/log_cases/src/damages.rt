@@ -109,12 +109,12 @@ impl<'a> Target<'a> {
         Ok(lines.into_text()?)
     }
 
-    /// The lines of the cases in which bytes are added, up to so many.
-    pub fn additions(&mut self, head: &str, most: u64) -> Result<String, StoreFault> {
+    /// The lines of the cases in which bytes are added, at first one, and fewer than `end` at last.
+    pub fn additions(&mut self, head: &str, end: u64) -> Result<String, StoreFault> {
         let number = self.number;
         let head = format!(in self.alloc; "{head}add to binlog.{number:06} ")?;
         let mut lines = Ranges::new(self.alloc, head.as_str(), " bytes");
-        for count in 1..most + 1 {
+        for count in 1..end {
             self.bytes.push(255)?;
             let found = self.found(u64::MAX)?;
             lines.add(format!(in self.alloc; "{count}")?, found)?;

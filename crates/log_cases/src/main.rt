@@ -94,7 +94,7 @@ fn add_behind(alloc: Global, text: &mut String, ring: &Ring) -> Result<(), Store
     text.push_str(six.flips("behind the end, ", 239, 511)?.as_str())?;
     text.push_str(six.cuts("behind the end, ", 239)?.as_str())?;
     let mut whole = Target::new(alloc, ring, WHOLE, 3)?;
-    text.push_str(whole.additions("behind the end, ", 64)?.as_str())?;
+    text.push_str(whole.additions("behind the end, ", 65)?.as_str())?;
     Ok(())
 }
 

@@ -1,7 +1,6 @@
 //! Calls on a log of which one call of the disk stops or fails.
-ghost use Rattle.std.specs.Prelude.{◌≡◌, IfOk, List, OnOk};
+ghost use Rattle.std.specs.Prelude.{◌≡◌, IfOk, OnOk};
 ghost use Rattle.binlog_store.specs.Stands.{IsWritten};
-ghost use Rattle.ring_types.specs.declared.entries.Entry.{Entry};
 
 use crate::disks::{WHOLE, find, with_end};
 use crate::ranges::Ranges;
@@ -30,7 +29,9 @@ const ONE: LogPoint = LogPoint {
 };
 
 /// The log of the first NoOp, as a mount reads it from another disk.
-fn first_log(alloc: Global, ring: &Ring) -> Result<List<Entry>, StoreFault> {
+fn first_log(alloc: Global, ring: &Ring) -> Result<List<Entry>, StoreFault>
+    ensures { IfOk result (IsWritten ring.now.schema) }
+{
     let mut disk = with_end(alloc, ring, ONE)?;
     ring.law_built();
     let store = BinlogStore::mount(alloc, ring.schema(), &mut disk)?;
@@ -77,6 +78,7 @@ fn append_first(
 }
 
 /// Truncates the log of the disk to two entries, and appends what that left out.
+#[tactic(auto, using(crate::proofs::Parts::parts_written))]
 fn append_again(
     alloc: Global,
     ring: &Ring,
@@ -154,7 +156,7 @@ fn found_after(
 }
 
 /// How many calls of the disk the work makes, and its word.
-fn calls_of(work: Work) -> (u64, &'static str) {
+fn calls_of(work: Work) -> (u32, &'static str) {
     match work {
         Work::First => (6, "first"),
         Work::Append => (14, "append"),
@@ -174,7 +176,7 @@ pub fn stops(
     let (calls, name) = calls_of(work);
     let head = format!(in alloc; "{name} stop ")?;
     let mut lines = Ranges::new(alloc, head.as_str(), tail);
-    for call in 1..calls + 2 {
+    for call in 1..u64::from(calls) + 2 {
         let found = found_after(alloc, ring, work, CutAt::Stop { call, keep }, true)?;
         lines.add(format!(in alloc; "{call}")?, found)?;
     }
@@ -192,7 +194,7 @@ pub fn failures(
     let (calls, name) = calls_of(work);
     let head = format!(in alloc; "{name} fail ")?;
     let mut lines = Ranges::new(alloc, head.as_str(), tail);
-    for call in 1..calls + 2 {
+    for call in 1..u64::from(calls) + 2 {
         let found = found_after(alloc, ring, work, CutAt::Fail { call }, crash)?;
         lines.add(format!(in alloc; "{call}")?, found)?;
     }
