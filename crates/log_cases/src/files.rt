@@ -1,7 +1,6 @@
 //! The bytes of the log's three files, written group by group.
-ghost use Rattle.std.specs.Prelude.{◌≡◌, true};
+ghost use Rattle.std.specs.Prelude.{◌≡◌};
 ghost use Rattle.entry_group.specs.Groups.{can_stand, kind_of};
-ghost use Rattle.ring_types.specs.Rings.{is_schema};
 
 use crate::entries::entry;
 use entry_group::write_entry;

@@ -35,17 +35,10 @@ use crate::damages::Target;
 use crate::disks::WHOLE;
 use crate::stops::Work;
 use binlog_store::{LogPoint, StoreFault};
-use ring_types::{Keep, Ring};
+use ring_types::Ring;
 use std::alloc::Global;
 use std::io;
 use std::process::ExitCode;
-
-/// How much a crash keeps of each write, with its word.
-const KEEPS: [(Keep, &str); 3] = [
-    (Keep::Nothing, " none"),
-    (Keep::Half, " half"),
-    (Keep::All, " all"),
-];
 
 /// The numbers of the log's files, and from which offset up to which their second groups stand.
 const SECOND_GROUPS: [(u32, usize, usize); 3] = [(1, 199, 471), (2, 469, 555), (3, 239, 511)];
@@ -59,11 +52,9 @@ const SIX: LogPoint = LogPoint {
 };
 
 fn add_work(alloc: Global, text: &mut String, ring: &Ring, work: Work) -> Result<(), StoreFault> {
-    for (keep, tail) in KEEPS {
-        text.push_str(stops::stops(alloc, ring, work, keep, tail)?.as_str())?;
+    for way in stops::ways() {
+        text.push_str(stops::lines(alloc, ring, work, way)?.as_str())?;
     }
-    text.push_str(stops::failures(alloc, ring, work, true, "")?.as_str())?;
-    text.push_str(stops::failures(alloc, ring, work, false, ", no crash")?.as_str())?;
     Ok(())
 }
 

@@ -20,6 +20,57 @@ pub enum Work {
     Truncate,
 }
 
+/// How a call of the disk cuts the work.
+#[derive(Clone, Copy)]
+pub struct Way {
+    /// What its lines say of it, in front of the call and behind it.
+    word: &'static str,
+    tail: &'static str,
+    /// How much the crash keeps of each write, if the call stops the disk; else it is the only one that
+    /// fails.
+    keep: Option<Keep>,
+    /// Whether the disk crashes after it.
+    crash: bool,
+}
+
+impl Way {
+    fn cut_at(self, call: u64) -> CutAt {
+        match self.keep {
+            Some(keep) => CutAt::Stop { call, keep },
+            None => CutAt::Fail { call },
+        }
+    }
+}
+
+fn stop(keep: Keep, tail: &'static str) -> Way {
+    Way {
+        word: "stop",
+        tail,
+        keep: Some(keep),
+        crash: true,
+    }
+}
+
+fn failure(crash: bool, tail: &'static str) -> Way {
+    Way {
+        word: "fail",
+        tail,
+        keep: None,
+        crash,
+    }
+}
+
+/// All of them, in the order of the lines.
+pub fn ways() -> [Way; 5] {
+    [
+        stop(Keep::Nothing, " none"),
+        stop(Keep::Half, " half"),
+        stop(Keep::All, " all"),
+        failure(true, ""),
+        failure(false, ", no crash"),
+    ]
+}
+
 /// Where the log of the first NoOp ends.
 const ONE: LogPoint = LogPoint {
     count: 1,
@@ -137,17 +188,17 @@ fn answer(
     }
 }
 
-/// What the work answered, and what is found afterwards: after a crash, or at once.
+/// What the work answered, and what is found afterwards.
 fn found_after(
     alloc: Global,
     ring: &Ring,
     work: Work,
-    cut: CutAt,
-    crash: bool,
+    way: Way,
+    call: u64,
 ) -> Result<String, StoreFault> {
     let mut disk = disk_for(alloc, ring, work)?;
-    let answer = answer(alloc, ring, work, &mut disk, cut)?;
-    if crash {
+    let answer = answer(alloc, ring, work, &mut disk, way.cut_at(call))?;
+    if way.crash {
         disk.crash()?;
     }
     disk.clear()?;
@@ -164,38 +215,14 @@ fn calls_of(work: Work) -> (u32, &'static str) {
     }
 }
 
-/// The lines of the work, stopped at each of its calls and at the one behind them; a crash keeps so much of
-/// each write.
-pub fn stops(
-    alloc: Global,
-    ring: &Ring,
-    work: Work,
-    keep: Keep,
-    tail: &str,
-) -> Result<String, StoreFault> {
+/// The lines of the work that is cut in this way, at each of its calls and at the one behind them.
+pub fn lines(alloc: Global, ring: &Ring, work: Work, way: Way) -> Result<String, StoreFault> {
     let (calls, name) = calls_of(work);
-    let head = format!(in alloc; "{name} stop ")?;
-    let mut lines = Ranges::new(alloc, head.as_str(), tail);
+    let word = way.word;
+    let head = format!(in alloc; "{name} {word} ")?;
+    let mut lines = Ranges::new(alloc, head.as_str(), way.tail);
     for call in 1..u64::from(calls) + 2 {
-        let found = found_after(alloc, ring, work, CutAt::Stop { call, keep }, true)?;
-        lines.add(format!(in alloc; "{call}")?, found)?;
-    }
-    Ok(lines.into_text()?)
-}
-
-/// The lines of the work of which each call fails, and the one behind them.
-pub fn failures(
-    alloc: Global,
-    ring: &Ring,
-    work: Work,
-    crash: bool,
-    tail: &str,
-) -> Result<String, StoreFault> {
-    let (calls, name) = calls_of(work);
-    let head = format!(in alloc; "{name} fail ")?;
-    let mut lines = Ranges::new(alloc, head.as_str(), tail);
-    for call in 1..u64::from(calls) + 2 {
-        let found = found_after(alloc, ring, work, CutAt::Fail { call }, crash)?;
+        let found = found_after(alloc, ring, work, way, call)?;
         lines.add(format!(in alloc; "{call}")?, found)?;
     }
     Ok(lines.into_text()?)
