@@ -9,8 +9,8 @@
 //!
 //! - `first stop C K: A, F`: the first NoOp was appended to an empty log, and stopped at the C-th call of
 //!   the disk, where the crash keeps K of each write. The append answered A, and a mount finds F.
-//! - `append stop C K`, `truncate stop C K`: the same of an append of entries 3 to 7, and of a truncation
-//!   to 2 entries.
+//! - `append stop C K`, `truncate stop C K`: the same of an append of entries 3 to 7 to files that hold no
+//!   more than entries 1 and 2, and of a truncation from 7 entries to 2.
 //! - `.. fail C: A, F`: only the C-th call fails, and the crash keeps nothing. With `no crash` the log is
 //!   mounted at once, so that what was written stands.
 //! - `one insert, flip FILE O.B: F`: of a log of a NoOp and an insert, bit B of the byte at offset O is

@@ -1,12 +1,18 @@
 //! Calls on a log of which one call of the disk stops or fails.
-ghost use Rattle.std.specs.Prelude.{◌≡◌, IfOk, OnOk};
+ghost use Rattle.std.specs.Prelude.{◌≡◌, ◌≤◌, true, IfOk, OnOk, length, take};
+ghost use Rattle.ring_types.specs.Rings.{is_schema};
+ghost use Rattle.ring_types.specs.declared.schemas.Schema.{Schema};
+ghost use Rattle.disk_memory.specs.Pasts.{states};
+ghost use Rattle.binlog_store.specs.Mounted.{IsMounted, IsStore, log_of};
 ghost use Rattle.binlog_store.specs.Stands.{IsWritten};
+ghost use Rattle.binlog_store.specs.declared.stores.BinlogStore.{BinlogStore};
 
 use crate::disks::{WHOLE, find, with_end};
 use crate::ranges::Ranges;
 use binlog_store::{BinlogStore, LogPoint, StoreFault};
 use disk_memory::MemoryDisk;
-use ring_types::{CutAt, Entry, Keep, List, Memory, Ring, after};
+use edge_traits::{Disk, DiskFault, FileId};
+use ring_types::{CutAt, Entry, Keep, List, Memory, Ring, Schema, after};
 use std::alloc::Global;
 
 /// A call on a log.
@@ -101,6 +107,35 @@ fn begin(disk: &mut MemoryDisk, cut: CutAt) -> Result<(), Memory>
     }
 }
 
+/// Syncs a file of the log, so that no crash brings back what was cut off it.
+fn settle(disk: &mut MemoryDisk, number: u32) -> Result<(), DiskFault>
+    ensures { OnOk result ((schema : Schema) (store : BinlogStore) → IsMounted schema store (states disk.old.past.records) → IsMounted schema store (states disk.new.past.records)) }
+{
+    disk.sync(FileId::Binlog(number))?;
+    Ok(())
+}
+
+/// Truncates the log to two entries, and syncs its files.
+fn truncate_for_good(
+    store: &mut BinlogStore,
+    schema: &Schema,
+    disk: &mut MemoryDisk,
+) -> Result<(), StoreFault>
+    requires schema { is_schema schema.now ≡ true }
+    requires store { IsStore schema.now store.old }
+    requires within { 2 ≤ length (log_of store.old) }
+    requires mounted { IsMounted schema.now store.old (states disk.old.past.records) }
+    ensures log { OnOk result (log_of store.new ≡ take 2 (log_of store.old)) }
+    ensures store { OnOk result (IsStore schema.now store.new) }
+    ensures mounted { OnOk result (IsMounted schema.now store.new (states disk.new.past.records)) }
+{
+    store.truncate(schema, disk, 2)?;
+    settle(disk, 1)?;
+    settle(disk, 2)?;
+    settle(disk, 3)?;
+    Ok(())
+}
+
 /// What a call answered.
 fn answer_of(done: Result<(), StoreFault>) -> Result<&'static str, StoreFault> {
     match done {
@@ -128,7 +163,7 @@ fn append_first(
     answer_of(store.append(schema, disk, log))
 }
 
-/// Truncates the log of the disk to two entries, and appends what that left out.
+/// Truncates the log of the disk to two entries, for good, and appends what that left out.
 #[tactic(auto, using(crate::proofs::Parts::parts_written))]
 fn append_again(
     alloc: Global,
@@ -144,7 +179,7 @@ fn append_again(
     }
     let mut rest = List::new(alloc);
     rest.extend_copies(alloc, after(store.entries(), 2))?;
-    store.truncate(schema, disk, 2)?;
+    truncate_for_good(&mut store, schema, disk)?;
     begin(disk, cut)?;
     answer_of(store.append(schema, disk, rest))
 }
