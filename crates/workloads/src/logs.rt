@@ -1,3 +1,10 @@
+//! Logs on a disk in memory: mounted, and appended to.
+ghost use Rattle.std.specs.Prelude.{◌≡◌, ◌++◌, ◌∷◌, [], true, IfOk, OnOk};
+ghost use Rattle.ring_types.specs.Rings.{is_schema};
+ghost use Rattle.disk_memory.specs.Pasts.{states};
+ghost use Rattle.binlog_store.specs.Mounted.{IsMounted, IsStore, log_of};
+ghost use Rattle.binlog_store.specs.Stands.{IsWritten};
+
 use crate::groups::{file, ring};
 use binlog_store::{BinlogStore, StoreFault};
 use control_block::{ControlBlock, ControlFault};
@@ -31,7 +38,11 @@ fn mount(
     schema: &Schema,
     disk: &mut MemoryDisk,
     count: u64,
-) -> Result<BinlogStore, StoreFault> {
+) -> Result<BinlogStore, StoreFault>
+    requires { is_schema schema.now ≡ true }
+    ensures store { IfOk result (λ it. IsStore schema.now it) }
+    ensures mounted { IfOk result (λ it. IsMounted schema.now it (states disk.new.past.records)) }
+{
     let Ok(()) = write_log(alloc, disk, count) else {
         return Err(StoreFault::Disk);
     };
@@ -45,25 +56,56 @@ fn append_one(
     disk: &mut MemoryDisk,
     store: &mut BinlogStore,
     entry: &Entry,
-) -> Result<(), StoreFault> {
+) -> Result<(), StoreFault>
+    requires schema { is_schema schema.now ≡ true }
+    requires store { IsStore schema.now store.old }
+    requires log { IsWritten schema.now (log_of store.old ++ entry.now ∷ []) }
+    requires mounted { IsMounted schema.now store.old (states disk.old.past.records) }
+    ensures log { OnOk result (log_of store.new ≡ log_of store.old ++ entry.now ∷ []) }
+    ensures store { OnOk result (IsStore schema.now store.new) }
+    ensures mounted { OnOk result (IsMounted schema.now store.new (states disk.new.past.records)) }
+{
     let entries = List::of_one(alloc, entry.copy(alloc)?)?;
     store.append(schema, disk, entries)
 }
 
-/// Truncates the log to nothing and appends its entries again, each by itself.
+/// Appends the entries of a whole log to the empty one, each by itself.
+fn append_each(
+    alloc: Global,
+    schema: &Schema,
+    disk: &mut MemoryDisk,
+    store: &mut BinlogStore,
+    whole: &[Entry],
+) -> Result<(), StoreFault>
+    requires schema { is_schema schema.now ≡ true }
+    requires written { IsWritten schema.now whole.now }
+    requires empty { log_of store.old ≡ [] }
+    requires store { IsStore schema.now store.old }
+    requires mounted { IsMounted schema.now store.old (states disk.old.past.records) }
+    ensures { OnOk result (log_of store.new ≡ whole.now) }
+{
+    for entry in whole {
+        append_one(alloc, schema, disk, store, entry)?;
+    }
+    Ok(())
+}
+
+/// Truncates the log to nothing and appends its entries again.
 fn append_again(
     alloc: Global,
     schema: &Schema,
     disk: &mut MemoryDisk,
     store: &mut BinlogStore,
-) -> Result<(), StoreFault> {
-    let mut entries = List::new(alloc);
-    entries.extend_copies(alloc, store.entries())?;
+) -> Result<(), StoreFault>
+    requires schema { is_schema schema.now ≡ true }
+    requires store { IsStore schema.now store.old }
+    requires mounted { IsMounted schema.now store.old (states disk.old.past.records) }
+    ensures { OnOk result (log_of store.new ≡ log_of store.old) }
+{
+    let mut whole = List::new(alloc);
+    whole.extend_copies(alloc, store.entries())?;
     store.truncate(schema, disk, 0)?;
-    for entry in entries.as_slice() {
-        append_one(alloc, schema, disk, store, entry)?;
-    }
-    Ok(())
+    append_each(alloc, schema, disk, store, whole.as_slice())
 }
 
 /// Mounts a log of so many entries. Answers how many it has.
