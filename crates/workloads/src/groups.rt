@@ -42,11 +42,19 @@ fn entry(alloc: Global) -> Result<Entry, Memory> {
     Ok(Entry {
         opid: Opid {
             term: 1,
-            position: 2,
+            position: 1,
         },
         region: RegionId(1),
         payload: Payload::Txn(txn),
     })
+}
+
+/// Gives the transaction this number, in its position and in its GTID.
+fn renumber(entry: &mut Entry, number: u64) {
+    entry.opid.position = number;
+    if let Payload::Txn(txn) = &mut entry.payload {
+        txn.gtid.number = number;
+    }
 }
 
 /// The place of the next group of a transaction in the same file.
@@ -77,12 +85,13 @@ fn put_group(out: &mut Vec<u8>, ring: &Ring, entry: &Entry, place: Place) -> Res
     Ok(())
 }
 
-/// Puts so many groups of one entry, one behind another.
+/// Puts the groups of so many transactions, numbered from 1, one behind another.
 fn put_groups(alloc: Global, out: &mut Vec<u8>, ring: &Ring, count: u64) -> Result<(), Memory> {
-    let entry = entry(alloc)?;
+    let mut entry = entry(alloc)?;
     let mut place = FIRST;
-    for _ in 0..count {
+    for before in 0..count {
         let begin = out.len();
+        renumber(&mut entry, before.saturating_add(1));
         put_group(out, ring, &entry, place)?;
         place = behind(place, (out.len() as u64).saturating_sub(begin as u64));
     }

@@ -9,7 +9,9 @@
 //!   rows;
 //! - `conflicts`: a change is held against the keys of 10,000 prepared transactions;
 //! - `disk`: a call of a disk in memory, in turn four writes of 100 bytes at the end of a file and a sync;
-//! - `switch`: a control file is switched to 1,000 bytes.
+//! - `switch`: a control file is switched to 1,000 bytes;
+//! - `mount`: an entry of a log is read, when the log is mounted on a disk in memory;
+//! - `append`: the same, and then the log is truncated to nothing, and each entry is appended by itself.
 //!
 //! `workloads file COUNT` writes a binary log file with so many such groups to standard output, for
 //! `bench/stock-reader`.
@@ -20,6 +22,7 @@
 mod disks;
 mod engines;
 mod groups;
+mod logs;
 mod sets;
 
 use edge_std::StdSink;
@@ -56,6 +59,8 @@ fn worked(alloc: Global, name: &str, count: u64) -> Result<Option<u64>, Memory> 
         "conflicts" => engines::held(alloc, count),
         "disk" => Ok(disks::written(alloc, count)),
         "switch" => disks::switched(alloc, count),
+        "mount" => logs::mounted(alloc, count),
+        "append" => logs::appended(alloc, count),
         _ => return Ok(None),
     };
     Ok(Some(came?))
