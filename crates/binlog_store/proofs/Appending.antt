@@ -23,10 +23,11 @@ use Rattle.binlog_store.specs.Stands.{IsWritten, LogStands, ReadsFiles, last_len
 use Rattle.binlog_store.specs.declared.held.HeldLog.{HeldLog}
 use Rattle.binlog_store.specs.declared.points.LogPoint.{LogPoint}
 use Rattle.binlog_store.specs.declared.stores.BinlogStore.{BinlogStore}
+use Rattle.control_block.proofs.Switching.{write_then_switch}
 use Rattle.binlog_store.proofs.Continuing.{files_go_on, some_file}
 use Rattle.binlog_store.proofs.Counts.{count_added, count_files}
 use Rattle.binlog_store.proofs.NextPlaces.{next_begins_at_the_end, some_files}
-use Rattle.binlog_store.proofs.Phases.{below, held_holds, switch_phase, write_phase, write_then_switch}
+use Rattle.binlog_store.proofs.Phases.{below, held_holds, switch_phase, write_phase}
 use Rattle.binlog_store.proofs.HeldFiles.{begins_left, held_ends, held_more, held_reads, reads_shorter}
 
 -- ---- what is kept of a log says where it ends
@@ -159,7 +160,7 @@ module _ {D : Type 0} {files_on : D → Files} {moment : D → ℕ} {left_since 
       let held = held_written schema store is more mounted works settled in
       let here : AtEachMoment files_on moment left_since file.LogCtl mid new (IsEither store.control.bytes bytes) =
       subst (λ f. AtEachMoment files_on moment left_since f mid new (IsEither store.control.bytes bytes)) is.control run in
-      write_then_switch (telling files_on moment left_since old) (telling files_on moment left_since mid) (telling files_on moment left_since new)
+      write_then_switch log_files (telling files_on moment left_since old) (telling files_on moment left_since mid) (telling files_on moment left_since new)
       (LogStands schema (log_of store)) (LogStands schema (log_of store ++ more))
       (write_works schema store is mounted works)
       (switch_phase schema (log_of store) (log_of store ++ more) store.highest high store.control.bytes bytes is.said said (reads_both schema (log_of store) more (files_on mid) held) here)

@@ -20,10 +20,11 @@ use Rattle.binlog_store.specs.Stands.{IsWritten, LogStands, ReadsFiles, last_len
 use Rattle.binlog_store.specs.declared.held.HeldLog.{HeldLog}
 use Rattle.binlog_store.specs.declared.stores.BinlogStore.{BinlogStore}
 use Rattle.binlog_store.proofs.Appending.{file_is, held_same, reads_both}
+use Rattle.control_block.proofs.Switching.{switch_then_cut}
 use Rattle.binlog_store.proofs.Continuing.{files_go_on}
 use Rattle.binlog_store.proofs.Counts.{count_files, some_added}
 use Rattle.binlog_store.proofs.NextPlaces.{some_files}
-use Rattle.binlog_store.proofs.Phases.{below, switch_phase, switch_then_cut, write_phase}
+use Rattle.binlog_store.proofs.Phases.{below, switch_phase, write_phase}
 use Rattle.binlog_store.proofs.Truncating.{front_firm, front_reads, held_cut}
 
 -- ---- files of a longer log, and the prefix that is kept
@@ -97,7 +98,7 @@ module _ {D : Type 0} {files_on : D → Files} {moment : D → ℕ} {left_since 
   truncate_works {old = old} {mid = mid} {new = new} now bytes mounted same next says run stands works =
       let said : IsSaid schema held.entries now.highest now.control.bytes = subst (λ (h : HeldLog). IsSaid schema h.entries now.highest now.control.bytes) same next.said in
       let control : Stands now.control (files_on mid file.LogCtl) = subst (λ f. Stands now.control (files_on mid f)) next.control stands in
-      switch_then_cut (telling files_on moment left_since old) (telling files_on moment left_since mid) (telling files_on moment left_since new)
+      switch_then_cut log_files (telling files_on moment left_since old) (telling files_on moment left_since mid) (telling files_on moment left_since new)
       (LogStands schema (log_of store)) (LogStands schema held.entries)
       (switch_works now.highest bytes mounted (subst (IsSaid schema held.entries now.highest) says said) run)
       (write_phase schema held.entries now.highest now.control said (telling files_on moment left_since mid) (telling files_on moment left_since new) held.end.place.file _ control

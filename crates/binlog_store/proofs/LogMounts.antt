@@ -30,7 +30,8 @@ use Rattle.binlog_store.proofs.HeldFiles.{held_join, settled_held}
 use Rattle.binlog_store.proofs.LastFiles.{shown_last}
 use Rattle.binlog_store.proofs.LogEnds.{file_there}
 use Rattle.binlog_store.proofs.NextPlaces.{some_files}
-use Rattle.binlog_store.proofs.Phases.{below, files_within, works_beside}
+use Rattle.binlog_store.proofs.Phases.{below, files_within}
+use Rattle.control_block.proofs.Switching.{works_beside}
 use Rattle.binlog_store.proofs.Undamaged.{files_whole}
 use Rattle.binlog_store.proofs.Truncating.{front_firm, held_cut}
 

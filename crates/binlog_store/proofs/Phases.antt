@@ -12,6 +12,7 @@ use Rattle.control_block.specs.Blocks.{Stands}
 use Rattle.control_block.specs.ControlFiles.{IsEither, control_of}
 use Rattle.control_block.specs.declared.blocks.ControlBlock.{ControlBlock}
 use Rattle.control_block.proofs.Mounted.{stands_left}
+use Rattle.control_block.proofs.Switching.{works_beside}
 use Rattle.entry_group.specs.Files.{files}
 use Rattle.binlog_store.specs.Files.{from_file}
 use Rattle.binlog_store.specs.Groups.{log_control, log_files}
@@ -24,19 +25,6 @@ pub said_stands : (schema : Schema) (log : List Entry) (highest : ℕ) (bytes : 
     → ReadsFiles c 1 (files schema log) → control_of (c file.LogCtl) ≡ Some bytes → LogStands schema log c
 said_stands schema log highest None c said read is = rw is said.says.0
 said_stands schema log highest (Some bytes) c said read is = rw is (record { highest = highest; point = said.says; point_fits = said.fits; written = said.written; read = read })
-
--- ---- a call that works on some of the files, beside what the others hold
-pub works_beside : (own more : Group) (a b : Telling) (P Q : Contents → Type 0) → AreWithin own more → ((c : Contents) → P c → MayOut own a.files c → Q c)
-    → Works own a b P
-    → Works more a b Q
-works_beside own more a b P Q within told x = record {
-  crash = record { later = x.crash.later; before = λ t c early left. turn t c (x.crash.before t c early left) };
-  others = λ f out. x.others f (false_of own more within f out);
-}
-  where
-    turn : (t : ℕ) (c : Contents) → (a.left_since t c ⊎ (P c × MayOut own a.files c)) → a.left_since t c ⊎ (Q c × MayOut more a.files c)
-    turn t c (inl old) = inl old
-    turn t c (inr new) = inr (told c new.0 new.1, λ f out. new.1 f (false_of own more within f out))
 
 -- ---- the groups
 pub control_within : AreWithin log_control log_files
@@ -101,24 +89,3 @@ module _ {D : Type 0} {files_on : D → Files} {moment : D → ℕ} {left_since 
       (λ c. LogStands schema one c ⊎ LogStands schema other c) control_within
       (λ c either out. switched schema one other low high before bytes c said next (reads c (λ m. out (file.Binlog m) refl)) either)
       (works_at log_control refl run)
-
--- ---- one phase and then the other
-once : (P Q : Contents → Type 0) (c : Contents) → P c ⊎ (P c ⊎ Q c) → P c ⊎ Q c
-once P Q c (inl x) = inl x
-once P Q c (inr x) = x
-
-twice : (P Q : Contents → Type 0) (c : Contents) → (P c ⊎ Q c) ⊎ Q c → P c ⊎ Q c
-twice P Q c (inl x) = x
-twice P Q c (inr x) = inr x
-
--- what is written first, then the switch
-pub write_then_switch : (a b z : Telling) (P Q : Contents → Type 0) → Works log_files a b P → Works log_files b z (λ c. P c ⊎ Q c)
-    → Works log_files a z (λ c. P c ⊎ Q c)
-write_then_switch a b z P Q first second =
-    works_weaker log_files a z (λ c. P c ⊎ (P c ⊎ Q c)) (λ c. P c ⊎ Q c) (once P Q) (works_then log_files a b z P (λ c. P c ⊎ Q c) first second)
-
--- the switch first, then what is cut
-pub switch_then_cut : (a b z : Telling) (P Q : Contents → Type 0) → Works log_files a b (λ c. P c ⊎ Q c) → Works log_files b z Q
-    → Works log_files a z (λ c. P c ⊎ Q c)
-switch_then_cut a b z P Q first second =
-    works_weaker log_files a z (λ c. (P c ⊎ Q c) ⊎ Q c) (λ c. P c ⊎ Q c) (twice P Q) (works_then log_files a b z (λ c. P c ⊎ Q c) Q first second)
