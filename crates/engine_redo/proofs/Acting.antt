@@ -16,7 +16,7 @@ use Rattle.edge_traits.proofs.FileStates.{firm_left, firm_settled, firm_torn, fr
 use Rattle.edge_traits.proofs.Working.{AreWithin, works_at}
 use Rattle.engine_redo.specs.Groups.{engine_control, engine_files}
 use Rattle.engine_redo.specs.Items.{IsItem}
-use Rattle.engine_redo.specs.Mounted.{IsEngine, IsMounted, Says, schema_of, state_of}
+use Rattle.engine_redo.specs.Mounted.{HasAdded, IsEngine, IsMounted, Says, schema_of, state_of}
 use Rattle.engine_redo.specs.Points.{PointFits, point_bytes}
 use Rattle.engine_redo.specs.Stands.{EngineStands, IsRedo, MayRedo, empty_engine}
 use Rattle.engine_redo.specs.declared.engines.Engine.{Engine}
@@ -229,6 +229,38 @@ module _ {D : Type 0} (files : D → Files) (moment : D → ℕ) (left_since : D
         mounted (settled_too engine p q item (files old (file.Redo q.number)) (files mid (file.Redo q.number)) point there)
         (run.elsewhere (file.Redo q.number) (λ e. let z : file.Redo q.number ≡ file.EngineCtl = e ∙ control in cc))
         (subst (λ (g : FileId). Stands made.control (files new g)) (same ∙ control) stands)
+
+    pub item_added : (new : D) {P Q : List ℕ → Type 0} (made : Engine) (f : FileId) → f ≡ file.EngineCtl → made.point ≡ q
+        → AtEachMoment files moment left_since (file.Redo q.number) old mid P → AtEachMoment files moment left_since f mid new Q
+        → HasAdded engine made a (files old) (files new)
+    item_added new made f control made_point first run = record {
+      text = item;
+      item = item_is;
+      number = ap (λ (r : RedoPoint). r.number) made_point ∙ number;
+      bytes = subst (λ (r : RedoPoint). take r.end (files new (file.Redo r.number)).bytes ≡ take engine.point.end (before engine.point.number).bytes ++ item) (sym made_point)
+          (ap (λ (s : FileState). take q.end s.bytes) now ∙ text);
+      others = λ n apart. run.elsewhere (file.Redo n) (λ e. let z : file.Redo n ≡ file.EngineCtl = e ∙ control in cc)
+          ∙ first.elsewhere (file.Redo n) (λ e. apart (ap number_of e ∙ number));
+    }
+      where
+        before : ℕ → FileState
+        before n = files old (file.Redo n)
+
+        number : q.number ≡ engine.point.number
+        number = here_too engine p q point here
+
+        number_of : FileId → ℕ
+        number_of (file.Redo n) = n
+        number_of _ = 0
+
+        now : files new (file.Redo q.number) ≡ settled (written engine.point.end item (before engine.point.number).bytes)
+        now = run.elsewhere (file.Redo q.number) (λ e. let z : file.Redo q.number ≡ file.EngineCtl = e ∙ control in cc)
+            ∙ (settled_too engine p q item (before q.number) (files mid (file.Redo q.number)) point there
+            ∙ ap (λ (n : ℕ). settled (written engine.point.end item (before n).bytes)) number)
+
+        text : take q.end (written engine.point.end item (before engine.point.number).bytes) ≡ take engine.point.end (before engine.point.number).bytes ++ item
+        text = ap (λ (n : ℕ). take n (written engine.point.end item (before engine.point.number).bytes)) (end_too engine p q item point end)
+            ∙ written_after engine.point.end item (before engine.point.number).bytes mounted.firm.bytes
 
 -- the control file stands still after the item is written
 pub control_still : {D : Type 0} {files : D → Files} {moment : D → ℕ} {left_since : D → ℕ → Contents → Type 0} {old mid : D} {Q : List ℕ → Type 0} (engine : Engine)

@@ -1,13 +1,15 @@
 -- An engine in memory, and the disk on which it is mounted.
-use Rattle.std.specs.Prelude.{◌≡◌, ℕ, true, List, take, Option, Some, None}
+use Rattle.std.specs.Prelude.{◌≡◌, ◌≢◌, ℕ, true, List, ◌++◌, take, Option, Some, None}
 use Rattle.control_block.specs.Blocks.{Stands}
 use Rattle.edge_traits.specs.FileStates.{Files, Firm}
 use Rattle.edge_traits.specs.declared.disks.FileId.TheVariants as file
+use Rattle.engine_redo.specs.Items.{IsItem}
 use Rattle.engine_redo.specs.Points.{PointFits, point_bytes}
 use Rattle.engine_redo.specs.Stands.{IsRedo}
 use Rattle.engine_redo.specs.declared.engines.Engine.{Engine}
 use Rattle.engine_redo.specs.declared.points.RedoPoint.{RedoPoint}
 use Rattle.prepared_txns.specs.Engines.{EngineState}
+use Rattle.ring_model.specs.declared.effects.Action.{Action}
 use Rattle.ring_types.specs.Rings.{is_schema}
 use Rattle.ring_types.specs.declared.schemas.Schema.{Schema}
 
@@ -34,3 +36,11 @@ pub record IsMounted (engine : Engine) (on : Files) : Type 0 where
   pub control : Stands engine.control (on file.EngineCtl)
   pub firm : Firm engine.point.end (on (file.Redo engine.point.number))
   pub redo : IsRedo (schema_of engine) (take engine.point.end (on (file.Redo engine.point.number)).bytes) (state_of engine)
+
+-- a call wrote this action's item behind the end of the redo, and into no other redo file
+pub record HasAdded (old new : Engine) (a : Action) (before after : Files) : Type 0 where
+  pub text : List ℕ
+  pub item : IsItem (schema_of old) text a
+  pub number : new.point.number ≡ old.point.number
+  pub bytes : take new.point.end (after (file.Redo new.point.number)).bytes ≡ take old.point.end (before (file.Redo old.point.number)).bytes ++ text
+  pub others : (n : ℕ) → n ≢ old.point.number → after (file.Redo n) ≡ before (file.Redo n)

@@ -3,7 +3,7 @@ ghost use Rattle.std.specs.Prelude.{◌≡◌, ◌≤◌, ◌+◌, true, OnOk};
 ghost use Rattle.edge_traits.specs.Works.{HoldsOn, Switches};
 ghost use Rattle.engine_redo.specs.Faults.{EngineFails};
 ghost use Rattle.engine_redo.specs.Groups.{engine_files};
-ghost use Rattle.engine_redo.specs.Mounted.{IsEngine, IsMounted, schema_of, state_of};
+ghost use Rattle.engine_redo.specs.Mounted.{HasAdded, IsEngine, IsMounted, schema_of, state_of};
 ghost use Rattle.engine_redo.specs.Stands.{EngineStands, MayRedo};
 ghost use Rattle.event_txn.specs.Laws.{IsTxn};
 ghost use Rattle.prepared_txns.specs.Engines.{engine_done};
@@ -32,6 +32,7 @@ impl Engine {
         ensures schema { schema_of self.new ≡ schema_of self.old }
         ensures engine { OnOk result (IsEngine self.new) }
         ensures mounted { D.tells disk.old ≡ true → OnOk result (IsMounted self.new (D.files disk.new)) }
+        ensures item { D.tells disk.old ≡ true → OnOk result (HasAdded self.old self.new (action.Prepare (record { opid = opid; txn = txn })) (D.files disk.old) (D.files disk.new)) }
         ensures holds { D.tells disk.old ≡ true → OnOk result (HoldsOn engine_files D.files D.moment D.left_since disk.new (EngineStands (schema_of self.old) (engine_done (schema_of self.old) (state_of self.old) (action.Prepare (record { opid = opid; txn = txn }))))) }
         ensures crash { D.tells disk.old ≡ true → Switches engine_files D.files D.moment D.left_since disk.old disk.new (EngineStands (schema_of self.old) (state_of self.old)) (EngineStands (schema_of self.old) (engine_done (schema_of self.old) (state_of self.old) (action.Prepare (record { opid = opid; txn = txn })))) }
         ensures story { D.story disk.new ≡ D.story disk.old }
@@ -52,6 +53,7 @@ impl Engine {
         ensures schema { schema_of self.new ≡ schema_of self.old }
         ensures engine { OnOk result (IsEngine self.new) }
         ensures mounted { D.tells disk.old ≡ true → OnOk result (IsMounted self.new (D.files disk.new)) }
+        ensures item { D.tells disk.old ≡ true → OnOk result (HasAdded self.old self.new (action.Commit position) (D.files disk.old) (D.files disk.new)) }
         ensures holds { D.tells disk.old ≡ true → OnOk result (HoldsOn engine_files D.files D.moment D.left_since disk.new (EngineStands (schema_of self.old) (engine_done (schema_of self.old) (state_of self.old) (action.Commit position)))) }
         ensures crash { D.tells disk.old ≡ true → Switches engine_files D.files D.moment D.left_since disk.old disk.new (EngineStands (schema_of self.old) (state_of self.old)) (EngineStands (schema_of self.old) (engine_done (schema_of self.old) (state_of self.old) (action.Commit position))) }
         ensures story { D.story disk.new ≡ D.story disk.old }
@@ -74,6 +76,7 @@ impl Engine {
         ensures schema { schema_of self.new ≡ schema_of self.old }
         ensures engine { OnOk result (IsEngine self.new) }
         ensures mounted { D.tells disk.old ≡ true → OnOk result (IsMounted self.new (D.files disk.new)) }
+        ensures item { D.tells disk.old ≡ true → OnOk result (HasAdded self.old self.new (action.RollBackAfter position) (D.files disk.old) (D.files disk.new)) }
         ensures holds { D.tells disk.old ≡ true → OnOk result (HoldsOn engine_files D.files D.moment D.left_since disk.new (EngineStands (schema_of self.old) (engine_done (schema_of self.old) (state_of self.old) (action.RollBackAfter position)))) }
         ensures crash { D.tells disk.old ≡ true → Switches engine_files D.files D.moment D.left_since disk.old disk.new (EngineStands (schema_of self.old) (state_of self.old)) (EngineStands (schema_of self.old) (engine_done (schema_of self.old) (state_of self.old) (action.RollBackAfter position))) }
         ensures story { D.story disk.new ≡ D.story disk.old }
@@ -96,6 +99,7 @@ impl Engine {
         ensures schema { schema_of self.new ≡ schema_of self.old }
         ensures engine { OnOk result (IsEngine self.new) }
         ensures mounted { D.tells disk.old ≡ true → OnOk result (IsMounted self.new (D.files disk.new)) }
+        ensures item { D.tells disk.old ≡ true → OnOk result (HasAdded self.old self.new (action.DropPairs opids.now) (D.files disk.old) (D.files disk.new)) }
         ensures holds { D.tells disk.old ≡ true → OnOk result (HoldsOn engine_files D.files D.moment D.left_since disk.new (EngineStands (schema_of self.old) (engine_done (schema_of self.old) (state_of self.old) (action.DropPairs opids.now)))) }
         ensures crash { D.tells disk.old ≡ true → Switches engine_files D.files D.moment D.left_since disk.old disk.new (EngineStands (schema_of self.old) (state_of self.old)) (EngineStands (schema_of self.old) (engine_done (schema_of self.old) (state_of self.old) (action.DropPairs opids.now))) }
         ensures story { D.story disk.new ≡ D.story disk.old }

@@ -6,7 +6,7 @@ ghost use Rattle.edge_traits.specs.Moments.{AtEachMoment};
 ghost use Rattle.edge_traits.specs.Works.{HoldsOn, Switches};
 ghost use Rattle.engine_redo.specs.Faults.{EngineFails};
 ghost use Rattle.engine_redo.specs.Groups.{engine_files};
-ghost use Rattle.engine_redo.specs.Mounted.{IsEngine, IsMounted, schema_of, state_of};
+ghost use Rattle.engine_redo.specs.Mounted.{HasAdded, IsEngine, IsMounted, schema_of, state_of};
 ghost use Rattle.engine_redo.specs.Points.{PointFits, is_redo_file, point_bytes};
 ghost use Rattle.engine_redo.specs.Stands.{EngineStands, MayRedo};
 ghost use Rattle.engine_redo.specs.Writing.{MayBeItem};
@@ -149,6 +149,7 @@ impl Engine {
         ensures schema { schema_of self.new ≡ schema_of self.old }
         ensures engine { OnOk result (IsEngine self.new) }
         ensures mounted { D.tells disk.old ≡ true → OnOk result (IsMounted self.new (D.files disk.new)) }
+        ensures item { D.tells disk.old ≡ true → OnOk result (HasAdded self.old self.new action (D.files disk.old) (D.files disk.new)) }
         ensures holds { D.tells disk.old ≡ true → OnOk result (HoldsOn engine_files D.files D.moment D.left_since disk.new (EngineStands (schema_of self.old) (engine_done (schema_of self.old) (state_of self.old) action))) }
         ensures crash { D.tells disk.old ≡ true → Switches engine_files D.files D.moment D.left_since disk.old disk.new (EngineStands (schema_of self.old) (state_of self.old)) (EngineStands (schema_of self.old) (engine_done (schema_of self.old) (state_of self.old) action)) }
         ensures story { D.story disk.new ≡ D.story disk.old }

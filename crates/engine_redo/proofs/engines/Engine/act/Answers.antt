@@ -5,7 +5,7 @@ use Rattle.engine_redo.specs.Groups.{engine_files}
 use Rattle.engine_redo.specs.Items.{IsItem}
 use Rattle.engine_redo.specs.Mounted.{schema_of, state_of}
 use Rattle.engine_redo.specs.Stands.{EngineStands}
-use Rattle.engine_redo.proofs.Acting.{control_still, mounted_holds, mounted_then, put_held, switch_held, switched_engine}
+use Rattle.engine_redo.proofs.Acting.{control_still, item_added, mounted_holds, mounted_then, put_held, switch_held, switched_engine}
 use Rattle.prepared_txns.specs.Engines.{EngineState, engine_done}
 use Rattle.ring_types.specs.declared.schemas.Schema.{Schema}
 use Rattle.engine_redo.proofs.engines.Engine.act.Goals as goal
@@ -49,6 +49,18 @@ returns-clause-mounted g c told =
     c.args.action item c.requires.may end (c.in_ok-put.ensures.here told) c.switch.new.disk c.switch.new.self c.redo.new.self.control.file
     (ap (λ b. b.file) c.redo.ensures.control ∙ c.requires.engine.control) c.in_ok-switch.ensures.file c.in_ok-switch.ensures.point (c.in_ok-switch.ensures.schema ∙ c.redo.ensures.schema)
     (c.in_ok-switch.ensures.state ∙ c.in_ok-redo.ensures.done) (c.switch.ensures.crash told_too) (c.in_ok-switch.ensures.stands told_too)
+
+pub returns-clause-item : goal.returns-clause-item
+returns-clause-item g c told =
+    let item : IsItem (schema_of c.args.self.now) c.as_slice.result.now c.args.action =
+    subst (λ (b : List ℕ). IsItem (schema_of c.args.self.now) b c.args.action) (sym c.as_slice.ensures.value)
+    (subst (λ (s : Schema). IsItem s c.in_ok-item.item.items c.args.action) c.schema.ensures c.in_ok-item.ensures) in
+    let end = c.in-Some.ensures.end ∙ ap (λ (n : ℕ). c.redo.new.self.point.end + n) (c.len.ensures ∙ sym c.as_slice.ensures.len) in
+    let told_too = c.put.ensures.tells ∙ told in
+    item_added g.D.Disk.files g.D.Disk.moment g.D.Disk.left_since c.args.self.now c.requires.engine c.redo.new.self.point c.in-Some.point c.redo.ensures.point c.in-Some.ensures.number
+    c.args.disk.now c.put.new.disk (c.requires.mounted told) c.as_slice.result.now
+    c.args.action item c.requires.may end (c.in_ok-put.ensures.here told) c.switch.new.disk c.switch.new.self c.redo.new.self.control.file
+    (ap (λ b. b.file) c.redo.ensures.control ∙ c.requires.engine.control) c.in_ok-switch.ensures.point (c.put.ensures.crash told) (c.switch.ensures.crash told_too)
 
 pub returns-clause-holds : goal.returns-clause-holds
 returns-clause-holds g c told =
