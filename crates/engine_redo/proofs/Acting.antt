@@ -14,7 +14,7 @@ use Rattle.edge_traits.specs.declared.disks.FileId.{FileId}
 use Rattle.edge_traits.specs.declared.disks.FileId.TheVariants as file
 use Rattle.edge_traits.proofs.FileStates.{firm_left, firm_settled, firm_torn, front_written, length-written, settled_only, written_after}
 use Rattle.edge_traits.proofs.Working.{AreWithin, works_at}
-use Rattle.engine_redo.specs.Groups.{engine_control, engine_files}
+use Rattle.engine_redo.specs.Groups.{engine_files}
 use Rattle.engine_redo.specs.Items.{IsItem}
 use Rattle.engine_redo.specs.Mounted.{HasAdded, IsEngine, IsMounted, Says, schema_of, state_of}
 use Rattle.engine_redo.specs.Points.{PointFits, point_bytes}
@@ -77,6 +77,10 @@ redo_within n file.VoteCtl is = absurd (let z : false ≡ true = is in cc)
 redo_within n file.LogCtl is = absurd (let z : false ≡ true = is in cc)
 redo_within n file.EngineCtl is = absurd (let z : false ≡ true = is in cc)
 redo_within n (file.Binlog m) is = absurd (let z : false ≡ true = is in cc)
+
+abbrev engine_control : Group
+engine_control file.EngineCtl = true
+engine_control _ = false
 
 control_within : AreWithin engine_control engine_files
 control_within file.EngineCtl is = refl

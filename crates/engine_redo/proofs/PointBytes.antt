@@ -10,7 +10,8 @@ use Rattle.event_frame.proofs.Forms.{AreFields, body_is_spelled, one_spelling, s
 use Rattle.event_frame.proofs.Fields.{number_is_field, wide32, wide64}
 use Rattle.engine_redo.specs.Items.{any}
 use Rattle.engine_redo.specs.Mounting.{IsNamed}
-use Rattle.engine_redo.specs.Points.{PointFits, is_redo_file, known, point_bytes, point_form, point_in}
+use Rattle.std.specs.Result.{result_ok}
+use Rattle.engine_redo.specs.Points.{PointFits, is_redo_file, point_bytes, point_form, point_in}
 use Rattle.engine_redo.specs.declared.points.RedoPoint.{RedoPoint}
 
 pub point_fields : AreFields point_form
@@ -31,7 +32,7 @@ one_point p q pf qf same =
     (one_spelling Cut point_form (point_bytes p) (point_bytes q) p q [] [] point_fields (point_spelled p pf) (point_spelled q qf) (ap (λ (b : List ℕ). b ++ []) same)).0
 
 pub point_read : (p : RedoPoint) → PointFits p → point_in (point_bytes p) ≡ Some p
-point_read p fits = ap known (spelled_is_body Cut point_form (point_bytes p) p point_fields (point_spelled p fits))
+point_read p fits = ap result_ok (spelled_is_body Cut point_form (point_bytes p) p point_fields (point_spelled p fits))
 
 spelled_named : (bytes : List ℕ) (q : RedoPoint) → Spells point_form bytes q → IsNamed bytes q
 spelled_named bytes q a =
@@ -44,7 +45,7 @@ spelled_named bytes q a =
     let end : b.0 ≡ q.end = ap (λ (p : RedoPoint). p.end) is in
     record { is = made ∙ ap point_bytes is; fits = record { number = ap is_redo_file (sym number) ∙ a.3.0.1; end = omega (arith, b.3.0.0, end) } }
 
-known_some : (r : Result RedoPoint FieldFault) (q : RedoPoint) → known r ≡ Some q → r ≡ Ok q
+known_some : (r : Result RedoPoint FieldFault) (q : RedoPoint) → result_ok r ≡ Some q → r ≡ Ok q
 known_some (Ok p) q h = let e : p ≡ q = cc in ap (λ (x : RedoPoint). Ok x) e
 known_some (Err e) q h = absurd cc
 

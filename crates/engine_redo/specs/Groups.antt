@@ -3,10 +3,6 @@ use Rattle.std.specs.Prelude.{true, false}
 use Rattle.edge_traits.specs.Works.{Group}
 use Rattle.edge_traits.specs.declared.disks.FileId.TheVariants as file
 
-abbrev pub engine_control : Group
-engine_control file.EngineCtl = true
-engine_control _ = false
-
 abbrev pub engine_files : Group
 engine_files file.EngineCtl = true
 engine_files (file.Redo n) = true

@@ -2,8 +2,9 @@
 --   bytes  value   meaning
 --   4      1 or 2  the number of the redo file
 --   8      any     where the redo ends in it
-use Rattle.std.specs.Prelude.{◌≡◌, ℕ, ◌^◌, ◌<◌, Bool, true, ◌&&◌, nat_le, List, ◌++◌, Option, Some, None, Result, Ok, Err}
+use Rattle.std.specs.Prelude.{◌≡◌, ℕ, ◌^◌, ◌<◌, Bool, true, ◌&&◌, nat_le, List, ◌++◌, Option}
 use Rattle.std.specs.Int.{w32, w64, to_le_bytes}
+use Rattle.std.specs.Result.{result_ok}
 use Rattle.event_frame.specs.Fields.{number}
 use Rattle.event_frame.specs.Forms.{Form, One, Whole, body_of, ◌>>=◌}
 use Rattle.event_frame.specs.declared.field_readers.FieldFault.{FieldFault}
@@ -24,13 +25,9 @@ point_form = do
 abbrev pub point_bytes : RedoPoint → List ℕ
 point_bytes p = to_le_bytes w32 p.number ++ to_le_bytes w64 p.end
 
-abbrev pub known : Result RedoPoint FieldFault → Option RedoPoint
-known (Ok p) = Some p
-known (Err e) = None
-
 -- the point that the bytes of a control file name
 abbrev pub point_in : List ℕ → Option RedoPoint
-point_in bytes = known (body_of Cut point_form bytes)
+point_in bytes = result_ok (body_of Cut point_form bytes)
 
 -- the numbers of a point are in range
 pub record PointFits (p : RedoPoint) : Type 0 where
