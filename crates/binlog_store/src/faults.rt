@@ -15,8 +15,8 @@ pub enum StoreFault {
     /// Memory was wanting, here or at the disk, or a file would be longer than the disk or a u64 allows.
     #[error("out of memory")]
     Memory,
-    /// At a mount alone: the files stand for no log. At this offset of this file begins the first event
-    /// with which no log goes on; of the control file the offset is 0.
+    /// At a mount alone: the files are damaged. At this offset of this file begins the first event with which
+    /// no log goes on, or the group that the log's end leaves unfinished; of the control file it is 0.
     #[error("the log is damaged: {file:?} at {at}")]
     Damaged { file: FileId, at: u64 },
 }

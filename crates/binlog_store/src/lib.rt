@@ -8,13 +8,14 @@
 //! ([`BinlogStore::truncate`]). Wherever a crash stops them, the files stand for the old log or the new.
 //!
 //! A mount ([`BinlogStore::mount`]) reads the log up to that end and cuts off what stands behind it, so it
-//! does again what a stopped truncation left. Where the files stand for no log it names a file and the offset
-//! of the first event with which no log goes on ([`StoreFault::Damaged`]): behind the longest log whose files
-//! they begin with. Of `log.ctl` the offset is 0: its own bytes are at fault, or they name another length, or
-//! an end within a head or behind a Rotate. Of files that are damaged a mount leaves the binary log files' bytes
-//! as they were, whatever it answers. At each moment of it a crash leaves files that read, as far as the control
-//! file says, like some that it might have left before: the same log, the same damage, or, after an append that
-//! failed, still the old log or the new. So a mount may be tried again.
+//! does again what a stopped truncation left. If it comes to no log it names a file and an offset
+//! ([`StoreFault::Damaged`]): behind the longest log whose files they begin with, the first event with which
+//! no log goes on, or the group that the log's end leaves unfinished. Of `log.ctl` the offset is 0: its own
+//! bytes are at fault, or they name another length, or an end within a head or behind a Rotate. Of files that
+//! are damaged a mount leaves the binary log files' bytes as they were, whatever it answers. At each moment of
+//! it a crash leaves files that read, as far as the control file says, like some that it might have left
+//! before: the same log, the same damage, or, after an append that failed, still the old log or the new. So a
+//! mount may be tried again.
 //!
 //! Beside the entries the store keeps the end of the log in memory: its GTID set, and where the next entry
 //! begins. A truncation makes the end anew from the entries that stay, in time that grows with their number,
